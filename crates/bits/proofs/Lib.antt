@@ -1,0 +1,2 @@
+-- Laws of bits that no one function owns.
+pub mod Xor

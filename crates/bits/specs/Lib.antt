@@ -1,0 +1,3 @@
+-- What bits, octets and numbers have to do with each other.
+pub mod Choice
+pub mod Order

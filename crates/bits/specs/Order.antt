@@ -1,0 +1,28 @@
+-- The order of bits: octet by octet, most significant bit first. Clause 7.2.2; document 01, "From octets to lane bits".
+-- A bit is a number, 0 or 1; a stream of bits is a function from places to bits. Assumes nothing.
+use mathlib.Core.List.{List, [], _∷_}
+use Prim.Native.Nat.{ℕ, zero, suc, _+_, _-_, _*_, _/_, _%_, _^_}
+use lib.ListN.{getD, length}
+
+-- bit k of some octets; 0 past their end
+unfoldable pub bitAt : List ℕ → ℕ → ℕ
+bitAt octets k = getD octets (k / 8) 0 / 2 ^ (7 - k % 8) % 2
+
+-- the n bits of a stream from place k on, as a list
+unfoldable pub run : (ℕ → ℕ) → ℕ → ℕ → List ℕ
+run f k zero = []
+run f k (suc n) = f k ∷ run f (suc k) n
+
+-- all bits of some octets
+unfoldable pub bitsOf : List ℕ → List ℕ
+bitsOf octets = run (bitAt octets) 0 (8 * length octets)
+
+-- the n bits of a stream from place k on, as a number: the first is the highest
+unfoldable pub number : (ℕ → ℕ) → ℕ → ℕ → ℕ
+number f k zero = 0
+number f k (suc n) = number f k n * 2 + f (k + n)
+
+-- the n low bits of a number, highest first
+unfoldable pub digits : ℕ → ℕ → List ℕ
+digits zero v = []
+digits (suc n) v = v / 2 ^ n % 2 ∷ digits n v
