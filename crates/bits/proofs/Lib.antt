@@ -1,2 +1,6 @@
 -- Laws of bits that no one function owns.
 pub mod Xor
+pub mod Additive
+pub mod Numbers
+pub mod Runs
+pub mod Words

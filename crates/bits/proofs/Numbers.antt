@@ -1,0 +1,76 @@
+-- Laws of the number that a run of bits writes. Assumes nothing.
+use mathlib.Core.Path.{_≡_, refl, sym, ap, ap₂, _∙_, subst}
+use mathlib.Core.List.{List}
+use Prim.Native.Nat.{ℕ, zero, suc, _+_, _-_, _*_, _/_, _%_, _^_, _≤_, _<_}
+use native.Mathlib.Nat.{add-zero, add-suc, add-assoc, mul-one, pow-suc, pow-zero, mul-assoc, add-mul, mod-lt, mod-one, zero-div, zero-lt-suc}
+use native.Mathlib.Numerals.{add-one}
+use native.Mathlib.Omega.{arith}
+use lib.ListN.{length, getD, List·getD-eq-default}
+use lib.Arith.{digits-lt}
+use lib.Pow.{pow-pos, shr-shr, mod-pow-add}
+use Rattle.bits.specs.Order.{bitAt, number}
+
+pub bitAt-lt : (octets : List ℕ) (k : ℕ) → bitAt octets k < 2
+unfolding bitAt
+bitAt-lt octets k = mod-lt (getD octets (k / 8) 0 / 2 ^ (7 - k % 8)) (zero-lt-suc 1)
+
+module _ (f : ℕ → ℕ) where
+  -- a run of a + b bits is a run of a and then one of b
+  pub number-split : (k a b : ℕ) → number f k (a + b) ≡ number f k a * 2 ^ b + number f (k + a) b
+  unfolding number
+  number-split k a zero = ap (number f k) (add-zero a) ∙ sym (add-zero _ ∙ (ap (λ (x : ℕ). number f k a * x) (pow-zero 2) ∙ mul-one _))
+  number-split k a (suc b) =
+      ap (number f k) (add-suc a b)
+      ∙ ap₂ (λ (x y : ℕ). x * 2 + f y) (number-split k a b) (sym (add-assoc k a b))
+      ∙ ap (λ (x : ℕ). x + f (k + a + b)) (add-mul (number f k a * 2 ^ b) (number f (k + a) b) 2 ∙ ap (λ (x : ℕ). x + number f (k + a) b * 2) (mul-assoc (number f k a) (2 ^ b) 2 ∙ ap (λ (x : ℕ). number f k a * x) (sym (pow-suc 2 b))))
+      ∙ add-assoc (number f k a * 2 ^ suc b) (number f (k + a) b * 2) (f (k + a + b))
+
+  module _ (d : (k : ℕ) → f k < 2) where
+    pub number-lt : (k n : ℕ) → number f k n < 2 ^ n
+    unfolding number
+    number-lt k zero = omega (arith, pow-pos 0)
+    number-lt k (suc n) = subst (λ (x : ℕ). number f k n * 2 + f (k + n) < x) (sym (pow-suc 2 n)) (digits-lt (number-lt k n) (d (k + n)))
+
+-- equal bits, equal numbers
+pub number-ext : (f g : ℕ → ℕ) (k l n : ℕ) → ((j : ℕ) → j < n → f (k + j) ≡ g (l + j)) → number f k n ≡ number g l n
+unfolding number
+number-ext f g k l zero h = refl
+number-ext f g k l (suc n) h = ap₂ (λ (x y : ℕ). x * 2 + y) (number-ext f g k l n (λ j q. h j (omega arith))) (h n (omega arith))
+
+-- the digits of a number v of n digits, most significant first: the first w of them make its upper part
+pub number-digits : (v n w m : ℕ) → n ≡ w + m → number (λ j. v / 2 ^ (n - 1 - j) % 2) 0 w ≡ v / 2 ^ m % 2 ^ w
+unfolding number
+number-digits v n zero m e = sym (mod-one _)
+number-digits v n (suc w) m e =
+    ap₂ (λ (x y : ℕ). x * 2 + v / 2 ^ y % 2) (number-digits v n w (suc m) (omega arith) ∙ ap (λ (x : ℕ). x % 2 ^ w) (sym (shr-shr v m 1 ∙ ap (λ (x : ℕ). v / 2 ^ x) (add-one m)))) (omega arith)
+    ∙ sym (ap (λ (x : ℕ). v / 2 ^ m % 2 ^ x) (sym (add-one w)) ∙ mod-pow-add (v / 2 ^ m) w 1)
+
+-- ---- octets
+
+-- the bits of octet i
+pub bit-octet : (octets : List ℕ) (i j : ℕ) → j < 8 → bitAt octets (8 * i + j) ≡ getD octets i 0 / 2 ^ (7 - j) % 2
+unfolding bitAt
+bit-octet octets i j h = ap₂ (λ (x y : ℕ). getD octets x 0 / 2 ^ (7 - y) % 2) (omega arith) (omega arith)
+
+-- octet i is the number of its eight bits
+pub number-octet : (octets : List ℕ) (i : ℕ) → getD octets i 0 < 256 → number (bitAt octets) (8 * i) 8 ≡ getD octets i 0
+number-octet octets i h =
+    number-ext (bitAt octets) (λ j. getD octets i 0 / 2 ^ (8 - 1 - j) % 2) (8 * i) 0 8 (λ j q. bit-octet octets i j q ∙ ap (λ (x : ℕ). getD octets i 0 / 2 ^ x % 2) (omega arith))
+    ∙ number-digits (getD octets i 0) 8 8 0 refl
+    ∙ omega arith
+
+-- eight bits more
+pub number-next : (octets : List ℕ) (i n : ℕ) → getD octets (i + n) 0 < 256
+    → number (bitAt octets) (8 * i) (8 * (n + 1)) ≡ number (bitAt octets) (8 * i) (8 * n) * 256 + getD octets (i + n) 0
+number-next octets i n h =
+    ap (number (bitAt octets) (8 * i)) (omega arith)
+    ∙ number-split (bitAt octets) (8 * i) (8 * n) 8
+    ∙ ap (λ (x : ℕ). number (bitAt octets) (8 * i) (8 * n) * 256 + x) (ap (λ (x : ℕ). number (bitAt octets) x 8) (omega arith) ∙ number-octet octets (i + n) h)
+
+-- past the end every bit is 0
+pub past-end : (octets : List ℕ) (at n : ℕ) → length octets ≤ at → number (bitAt octets) (8 * at) n ≡ 0
+unfolding number bitAt
+past-end octets at zero h = refl
+past-end octets at (suc n) h =
+    ap₂ (λ (x y : ℕ). x * 2 + y) (past-end octets at n h)
+    (ap (λ (x : ℕ). x / 2 ^ (7 - (8 * at + n) % 8) % 2) (List·getD-eq-default octets 0 {n = (8 * at + n) / 8} (omega arith)) ∙ ap (λ (x : ℕ). x % 2) (zero-div (2 ^ (7 - (8 * at + n) % 8))))
