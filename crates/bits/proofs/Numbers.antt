@@ -3,7 +3,7 @@ use mathlib.Core.Path.{_≡_, refl, sym, ap, ap₂, _∙_, subst}
 use mathlib.Core.List.{List}
 use Prim.Native.Nat.{ℕ, zero, suc, _+_, _-_, _*_, _/_, _%_, _^_, _≤_, _<_}
 use native.Mathlib.Nat.{add-zero, add-suc, add-assoc, mul-one, pow-suc, pow-zero, mul-assoc, add-mul, mod-lt, mod-one, zero-div, zero-lt-suc}
-use native.Mathlib.Numerals.{add-one}
+use native.Mathlib.Numerals.{add-one, one-add}
 use native.Mathlib.Omega.{arith}
 use lib.ListN.{length, getD, List·getD-eq-default}
 use lib.Arith.{digits-lt}
@@ -24,6 +24,12 @@ module _ (f : ℕ → ℕ) where
       ∙ ap₂ (λ (x y : ℕ). x * 2 + f y) (number-split k a b) (sym (add-assoc k a b))
       ∙ ap (λ (x : ℕ). x + f (k + a + b)) (add-mul (number f k a * 2 ^ b) (number f (k + a) b) 2 ∙ ap (λ (x : ℕ). x + number f (k + a) b * 2) (mul-assoc (number f k a) (2 ^ b) 2 ∙ ap (λ (x : ℕ). number f k a * x) (sym (pow-suc 2 b))))
       ∙ add-assoc (number f k a * 2 ^ suc b) (number f (k + a) b * 2) (f (k + a + b))
+
+  pub number-first : (k n : ℕ) → number f k (suc n) ≡ f k * 2 ^ n + number f (suc k) n
+  number-first k n =
+      ap (number f k) (sym (one-add n))
+      ∙ number-split k 1 n
+      ∙ ap₂ (λ (x y : ℕ). x * 2 ^ n + number f y n) (unfold number in (omega (arith, ap f (add-zero k)))) (add-one k)
 
   module _ (d : (k : ℕ) → f k < 2) where
     pub number-lt : (k n : ℕ) → number f k n < 2 ^ n

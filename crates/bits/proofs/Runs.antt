@@ -3,12 +3,12 @@ use mathlib.Core.Path.{_≡_, refl, sym, ap, ap₂, _∙_}
 use mathlib.Core.List.{List, [], _∷_, _++_}
 use Prim.Native.Nat.{ℕ, zero, suc, _+_, _-_, _*_, _/_, _%_, _^_, _≤_, _<_}
 use native.Mathlib.Nat.{add-zero, zero-add, add-suc, suc-add, sub-zero, zero-lt-suc, mod-eq-of-lt}
-use native.Mathlib.Numerals.{add-one, one-add}
+use native.Mathlib.Numerals.{one-add}
 use native.Mathlib.Omega.{arith}
 use lib.ListN.{length, getD}
 use lib.Pow.{high, low, field, mod-mod-pow}
 use Rattle.bits.specs.Order.{bitAt, run, bitsOf, number, digits}
-use Rattle.bits.proofs.Numbers.{bit-octet, number-split, number-lt}
+use Rattle.bits.proofs.Numbers.{bit-octet, number-first, number-lt}
 
 pub run-ext : (f h : ℕ → ℕ) (k l n : ℕ) → ((j : ℕ) → j < n → f (k + j) ≡ h (l + j)) → run f k n ≡ run h l n
 unfolding run
@@ -38,14 +38,11 @@ run-append f k (suc a) n = ap (run f k) (suc-add a n) ∙ ap (λ (y : List ℕ).
 
 -- the digits of the number that a run writes are the run
 module _ (f : ℕ → ℕ) (d : (k : ℕ) → f k < 2) where
-  number-first : (k n : ℕ) → number f k (1 + n) ≡ f k * 2 ^ n + number f (suc k) n
-  number-first k n = number-split f k 1 n ∙ ap₂ (λ (x y : ℕ). x * 2 ^ n + number f y n) (unfold number in (omega (arith, ap f (add-zero k)))) (add-one k)
-
   low-digits : (k n x : ℕ) → x % 2 ^ n ≡ number f k n → digits n x ≡ run f k n
   unfolding digits run
   low-digits k zero x e = refl
   low-digits k (suc n) x e =
-      let w : x % 2 ^ (1 + n) ≡ f k * 2 ^ n + number f (suc k) n = ap (λ (m : ℕ). x % 2 ^ m) (one-add n) ∙ e ∙ ap (number f k) (sym (one-add n)) ∙ number-first k n in
+      let w : x % 2 ^ (1 + n) ≡ f k * 2 ^ n + number f (suc k) n = ap (λ (m : ℕ). x % 2 ^ m) (one-add n) ∙ e ∙ number-first f k n in
       ap₂ (λ (a : ℕ) (b : List ℕ). a ∷ b)
       (sym (field x 1 n) ∙ ap (λ (y : ℕ). y / 2 ^ n) w ∙ high (f k) n (number-lt f d (suc k) n))
       (low-digits (suc k) n x (sym (mod-mod-pow x 1 n) ∙ ap (λ (y : ℕ). y % 2 ^ n) w ∙ low (f k) n (number-lt f d (suc k) n)))
