@@ -1,0 +1,2 @@
+-- Laws of parity, weights and bursts.
+pub mod Polynomial
