@@ -1,2 +1,4 @@
 -- Laws of parity, weights and bursts.
 pub mod Polynomial
+pub mod Factor
+pub mod Cycle
