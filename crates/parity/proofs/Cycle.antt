@@ -6,7 +6,6 @@ use mathlib.Core.Bool.{Bool, true, false, _&&_}
 use Prim.Native.Nat.{ℕ, zero, suc, _+_, _*_, _≤_, _<_}
 use native.Mathlib.Nat.{not-suc-le-zero, le-of-suc-le-suc, add-zero, add-suc, suc-add, le-suc-iff, zero-mul, suc-mul, suc-inj}
 use lib.Dec.{T, leb}
-use Rattle.bits.specs.Choice.{pick}
 use Rattle.parity.specs.Polynomial.{timesX, timesPower}
 use Rattle.parity.proofs.Polynomial.{timesPower-add, timesPower-in}
 

@@ -2,3 +2,4 @@
 pub mod Polynomial
 pub mod Factor
 pub mod Cycle
+pub mod Fire
