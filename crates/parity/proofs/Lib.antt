@@ -3,3 +3,4 @@ pub mod Polynomial
 pub mod Factor
 pub mod Cycle
 pub mod Fire
+pub mod Bursts
