@@ -4,7 +4,7 @@ use mathlib.Core.Path.{_≡_, refl, sym, ap, ap₂, _∙_, subst}
 use mathlib.Core.Logic.{_≢_}
 use mathlib.Core.Bool.{Bool, true, false, not}
 use Prim.Native.Nat.{ℕ, zero, suc, _+_, _-_, _*_, _/_, _%_, _^_, _≤_, _<_}
-use native.Mathlib.Nat.{zero-mul, one-mul, zero-add, add-zero, add-suc, suc-add, add-mul, mul-assoc, zero-lt-suc, pow-suc, mul-comm, add-sub-cancel-left, le-add-right, le-add-left, le-of-lt, lt-of-lt-of-le, lt-of-le-of-lt, div-one, div-add-mod', mod-mod, sub-self, not-suc-le-zero}
+use native.Mathlib.Nat.{zero-mul, one-mul, zero-add, add-zero, add-suc, suc-add, add-mul, mul-assoc, zero-lt-suc, pow-suc, mul-comm, add-sub-cancel-left, le-add-right, le-add-left, lt-of-lt-of-le, div-one, div-add-mod', mod-mod}
 use native.Mathlib.Numerals.{one-add}
 use native.Mathlib.Decide.{decLe}
 use native.Mathlib.Omega.{arith}
@@ -17,8 +17,7 @@ use Rattle.bits.proofs.Xor.{odd-lt}
 use Rattle.parity.specs.Polynomial.{scale, timesX, timesPower}
 use Rattle.parity.specs.Codeword.{Code, crc12, fec, weight, weighed, remainderOf}
 use Rattle.parity.specs.Bursts.{IsBurst, flips}
-use Rattle.parity.proofs.Polynomial.{scale-zero, timesX-low, timesPower-xor, timesPower-zero, timesPower-scale, timesPower-add, timesPower-lt, timesPower-injective, power-low}
-use Rattle.parity.proofs.Factor.{half-lt}
+use Rattle.parity.proofs.Polynomial.{half-lt, scale-zero, timesX-low, timesPower-xor, timesPower-zero, timesPower-scale, timesPower-add, timesPower-lt, timesPower-injective, power-low}
 use Rattle.parity.proofs.Fire.{trapped}
 
 -- ---- codes

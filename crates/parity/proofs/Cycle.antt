@@ -1,6 +1,6 @@
 -- Tests that the checker computes along the powers of x, and what they show: a test at every number below a bound, a test at each of
 -- the first powers of x, how a power that gives back r does so again and again, and how to come from r to a smaller number. Assumes nothing.
-use mathlib.Core.Path.{_≡_, refl, sym, ap, _∙_, subst}
+use mathlib.Core.Path.{_≡_, sym, ap, _∙_, subst}
 use mathlib.Core.Logic.{_⊎_, inl, inr}
 use mathlib.Core.Bool.{Bool, true, false, _&&_}
 use Prim.Native.Nat.{ℕ, zero, suc, _+_, _*_, _≤_, _<_}

@@ -1,22 +1,19 @@
 -- The remainder modulo a factor of the polynomial: multiplying by x first and taking that remainder then is the same as the other way round,
 -- because what multiplying by x takes away is the polynomial itself, of which the factor leaves nothing. Assumes nothing.
-use mathlib.Core.Path.{_≡_, refl, sym, ap, ap₂, _∙_, subst}
+use mathlib.Core.Path.{_≡_, refl, sym, ap, ap₂, _∙_}
 use Prim.Native.Nat.{ℕ, zero, suc, _+_, _*_, _/_, _%_, _^_, _<_}
-use native.Mathlib.Nat.{mod-lt, zero-mul, one-mul, zero-add, zero-lt-suc, pow-suc, mul-div-cancel, mul-mod-left, div-add-mod', div-lt-iff-lt-mul, div-mul-le-self, div-le-self, lt-of-le-of-lt}
+use native.Mathlib.Nat.{mod-lt, zero-mul, one-mul, zero-add, zero-lt-suc, mul-div-cancel, mul-mod-left, div-add-mod', div-mul-le-self, div-le-self, lt-of-le-of-lt}
 use lib.Arith.{lt-one}
 use lib.Pow.{pow-pos, split}
 use lib.Bits.{bitXor, xor-mod, xor-comm, xor-zero-r, xor-shifted, xor-block}
 use Rattle.bits.proofs.Xor.{bit-cases, odd-lt, xor-half, xor-swap}
 use Rattle.parity.specs.Polynomial.{scale, timesX, timesPower}
-use Rattle.parity.proofs.Polynomial.{scale-zero, scale-one, timesX-xor, timesX-zero, timesX-lt, timesX-low, top-lt, timesPower-lt}
+use Rattle.parity.proofs.Polynomial.{scale-zero, scale-one, timesX-xor, timesX-zero, timesX-lt, timesX-low, top-lt, half-lt, timesPower-lt}
 
 -- the k low bits of r, as a polynomial, modulo x^u + l
 unfoldable pub reduced : ℕ → ℕ → ℕ → ℕ → ℕ
 reduced u l zero r = 0
 reduced u l (suc k) r = bitXor (timesX u l (reduced u l k (r / 2))) (r % 2)
-
-pub half-lt : (k a : ℕ) → a < 2 ^ suc k → a / 2 < 2 ^ k
-half-lt k a h = div-lt-iff-lt-mul (zero-lt-suc 1) .1 (subst (λ (x : ℕ). a < x) (pow-suc 2 k) h)
 
 -- x r is twice r, less the polynomial where that grows too wide
 timesX-whole : (w g r : ℕ) → g < 2 ^ w → r < 2 ^ w → timesX w g r ≡ bitXor (r * 2) (scale (r * 2 / 2 ^ w) (2 ^ w + g))

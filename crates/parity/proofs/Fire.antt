@@ -68,9 +68,10 @@ turn a q d ha ka h k eq =
 
 falls : ℕ → Bool
 falls q =
-    elim (leb q 1)
-    [ true ↦ true
-    | false ↦ leb 1 (below 9 17 511 q (timesX 9 17 q)) && ltb (below 9 17 511 q (timesX 9 17 q)) q ]
+    elim (leb q 1) [
+      | true ↦ true
+      | false ↦ leb 1 (below 9 17 511 q (timesX 9 17 q)) && ltb (below 9 17 511 q (timesX 9 17 q)) q
+    ]
 
 every-falls : T (every falls 512)
 unfolding every falls below timesX scale

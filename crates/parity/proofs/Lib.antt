@@ -4,3 +4,4 @@ pub mod Factor
 pub mod Cycle
 pub mod Fire
 pub mod Bursts
+pub mod Sets
