@@ -106,6 +106,7 @@ module _ (C : Code) where
   patternSum-fits (suc m) (suc n) p q hm hn =
       ap (bitXor (scale q (weight C p))) (patternSum-fits m n (suc p) (q / 2) (half-lt m q hm) (half-lt n q hn))
 
+  -- what is not set before and after the burst adds nothing
   pub remainder-pattern : (b p q : ℕ) → IsBurst b (C .positions) p q → remainderOf C (flips p q) ≡ patternSum C b p q
   unfolding remainderOf
   remainder-pattern b p q h =
@@ -121,7 +122,7 @@ module _ (C : Code) where
 
 -- ---- the pattern turned round
 
--- the k low bits of q, the lowest first
+-- the k low bits of q turned round: the lowest becomes the highest
 unfoldable pub mirror : ℕ → ℕ → ℕ
 mirror zero q = 0
 mirror (suc k) q = q % 2 * 2 ^ k + mirror k (q / 2)
@@ -221,6 +222,7 @@ module _ (C : Code) where
     pub late-lt : C .positions ≤ p + b → remainderOf C (flips p q) < 2 ^ (C .positions - p)
     late-lt l = subst (λ (x : ℕ). x < 2 ^ (C .positions - p)) (sym (late l)) (mirror-lt (C .positions - p) q)
 
+    -- the same in one form, wherever the burst is
     pub shifted : timesPower (C .width) (C .lower) b (remainderOf C (flips p q)) ≡ timesPower (C .width) (C .lower) (C .positions - p) (mirror b q)
     shifted = go (decLe (p + b) (C .positions))
       where
@@ -257,7 +259,9 @@ module _ (C : Code) where
 pub nine-bits : (q : ℕ) → q % 2 ≡ 1 → (256 ≤ mirror 9 q) × (mirror 9 q < 512)
 nine-bits q odd = (mirror-high 8 q odd, mirror-lt 9 q)
 
-one-burst-from : (p q s t : ℕ) → IsBurst 9 2074 p q → IsBurst 9 2074 s t → s ≤ p → remainderOf fec (flips p q) ≡ remainderOf fec (flips s t) → (p ≡ s) × (q ≡ t)
+-- of two with the same, the later one's pattern is a power of x times the earlier one's
+one-burst-from : (p q s t : ℕ) → IsBurst 9 2074 p q → IsBurst 9 2074 s t → s ≤ p
+    → remainderOf fec (flips p q) ≡ remainderOf fec (flips s t) → (p ≡ s) × (q ≡ t)
 one-burst-from p q s t hq ht l e =
     let inside : p < 2074 = starts hq in
     let apart : 2074 - s ≡ p - s + (2074 - p) = omega arith in
