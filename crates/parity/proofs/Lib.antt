@@ -2,3 +2,8 @@
 pub mod Polynomial
 pub mod Remainder
 pub mod Codeword
+pub mod Factor
+pub mod Cycle
+pub mod Fire
+pub mod Bursts
+pub mod Sets
