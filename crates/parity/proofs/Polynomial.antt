@@ -1,13 +1,8 @@
 -- Arithmetic modulo a polynomial x^w + g over bits: adding and multiplying by powers of x commute, nothing outgrows the width,
 -- and where g is odd, multiplying by x loses nothing: x^w + g then has the constant term 1, so that x has an inverse. Assumes nothing.
 use mathlib.Core.Path.{_≡_, refl, sym, ap, ap₂, _∙_, subst}
-<<<<<<< HEAD
-use Prim.Native.Nat.{ℕ, zero, suc, _+_, _-_, _*_, _/_, _%_, _^_, _<_, _∣_, pred}
-use native.Mathlib.Nat.{mod-lt, zero-mul, one-mul, zero-lt-suc, pow-suc, add-zero, add-suc, div-eq-of-lt, mod-eq-of-lt, zero-mod, zero-div, div-self, mod-self, mod-mod-of-dvd, mul-mod-left, dvd-mul-left, div-lt-iff-lt-mul, mul-comm, suc-pred-eq-of-pos, not-suc-le-zero}
-=======
 use Prim.Native.Nat.{ℕ, zero, suc, _+_, _*_, _/_, _%_, _^_, _<_, _∣_, pred}
 use native.Mathlib.Nat.{mod-lt, zero-mul, one-mul, pow-suc, add-zero, add-suc, div-eq-of-lt, mod-eq-of-lt, div-self, mod-self, mod-mod-of-dvd, mul-mod-left, dvd-mul-left, div-lt-iff-lt-mul, mul-comm, suc-pred-eq-of-pos, zero-lt-suc, not-suc-le-zero}
->>>>>>> fire
 use native.Mathlib.Numerals.{one-add}
 use native.Mathlib.Omega.{arith}
 use lib.Pow.{pow-pos, pow-lt, split}
@@ -58,16 +53,11 @@ pub timesX-lt : (w g r : ℕ) → g < 2 ^ w → timesX w g r < 2 ^ w
 unfolding timesX
 timesX-lt w g r h = xor-lt w (scale (r * 2 / 2 ^ w) g) (r * 2 % 2 ^ w) (scale-lt w (r * 2 / 2 ^ w) g h) (mod-lt (r * 2) (pow-pos w))
 
-<<<<<<< HEAD
--- the bit that falls out at the top
-top-lt : (w r : ℕ) → r < 2 ^ w → r * 2 / 2 ^ w < 2
-=======
 pub half-lt : (k a : ℕ) → a < 2 ^ suc k → a / 2 < 2 ^ k
 half-lt k a h = div-lt-iff-lt-mul (zero-lt-suc 1) .1 (subst (λ (x : ℕ). a < x) (pow-suc 2 k) h)
 
 -- the bit that falls out at the top
 pub top-lt : (w r : ℕ) → r < 2 ^ w → r * 2 / 2 ^ w < 2
->>>>>>> fire
 top-lt w r h = div-lt-iff-lt-mul (pow-pos w) .1 (subst (λ (x : ℕ). r * 2 < x) (mul-comm (2 ^ w) 2) (omega arith))
 
 even-below : (w r : ℕ) → 0 < w → r * 2 % 2 ^ w % 2 ≡ 0

@@ -1,0 +1,68 @@
+-- `parity::bitwise::next_octet` meets its contract.
+-- Assumes nothing.
+use borrow.Author.Needs.{needs}
+use Prim.Native.Nat.{ℕ, suc, _+_, _-_, _*_, _/_, _%_, _^_, _≤_, _<_}
+use mathlib.Core.Path.{_≡_, refl, sym, ap, _∙_, subst}
+use mathlib.Core.List.{List, [], _∷_, _++_}
+use mathlib.Core.Bool.{Bool, true, false}
+use mathlib.Core.Logic.{⊎-elim}
+use native.Mathlib.Numerals.{add-one}
+use native.Mathlib.Omega.{arith}
+use borrow.Author.Count.{below-more}
+use borrow.Author.Tests.{le-ltb, lt-ltb, ltb-true, ltb-false, eq-eqb, ne-eqb}
+use lib.ListN.{length, getD, set, take, drop, length-set, length-append, length-take, length-drop}
+use lib.Seq.{take-suc, take-suc-set, take-all}
+use denote.Ref.{now}
+use Rattle.parity.proofs.bitwise.next_octet.Statement.{statement}
+use Rattle.parity.proofs.bitwise.next_octet.Tie as tie
+use Rattle.parity.proofs.bitwise.next_octet.Reads as reads
+use Rattle.parity.proofs.bitwise.next_octet.Lts as lts
+use Rattle.parity.proofs.bitwise.next_bit.Reads as next-bit-reads
+
+abbrev Inv-loop : tie.InvT-loop
+Inv-loop w g r octet bits s₀ k₀ s k = ?
+
+abbrev μ-loop : tie.MeasureT-loop
+μ-loop w g r octet bits s₀ k₀ s k = ?
+
+-- src/bitwise.rt:26:5
+loop-holds : tie.Need-loop-holds Inv-loop μ-loop
+loop-holds c = search needs
+
+-- src/bitwise.rt:27:9
+sub-k : tie.Need-sub-k Inv-loop μ-loop
+sub-k c = search needs
+
+-- src/bitwise.rt:28:32
+shr-next-bit : tie.Need-shr-next-bit Inv-loop μ-loop
+shr-next-bit c = search needs
+
+-- src/bitwise.rt:28:9
+next-bit-requires : tie.Need-next-bit-requires Inv-loop μ-loop
+next-bit-requires c κs = search needs
+
+-- src/bitwise.rt:26:5
+loop-less : tie.Need-loop-less Inv-loop μ-loop
+loop-less c = search needs
+
+-- src/bitwise.rt:26:5
+loop-again : tie.Need-loop-again Inv-loop μ-loop
+loop-again c = search needs
+
+-- src/bitwise.rt:19:1
+returns : tie.Need-returns Inv-loop μ-loop
+returns c = search needs
+
+pub next-octet-spec : {M : Type 1} → statement M
+next-octet-spec =
+    tie.close
+    (tie.spec
+    Inv-loop
+    μ-loop
+    loop-holds
+    sub-k
+    shr-next-bit
+    next-bit-requires
+    loop-less
+    loop-again
+    returns)

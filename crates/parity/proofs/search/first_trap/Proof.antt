@@ -1,0 +1,73 @@
+-- `parity::search::first_trap` meets its contract.
+-- Assumes nothing.
+use borrow.Author.Needs.{needs}
+use Prim.Native.Nat.{ℕ, suc, _+_, _-_, _*_, _/_, _%_, _^_, _≤_, _<_}
+use mathlib.Core.Path.{_≡_, refl, sym, ap, _∙_, subst}
+use mathlib.Core.List.{List, [], _∷_, _++_}
+use mathlib.Core.Bool.{Bool, true, false}
+use mathlib.Core.Logic.{⊎-elim}
+use native.Mathlib.Numerals.{add-one}
+use native.Mathlib.Omega.{arith}
+use borrow.Author.Count.{below-more}
+use borrow.Author.Tests.{le-ltb, lt-ltb, ltb-true, ltb-false, eq-eqb, ne-eqb}
+use lib.ListN.{length, getD, set, take, drop, length-set, length-append, length-take, length-drop}
+use lib.Seq.{take-suc, take-suc-set, take-all}
+use denote.Ref.{now}
+use Rattle.parity.proofs.search.first_trap.Statement.{statement}
+use Rattle.parity.proofs.search.first_trap.Tie as tie
+use Rattle.parity.proofs.search.first_trap.Reads as reads
+use Rattle.parity.proofs.search.first_trap.Lts as lts
+use Rattle.parity.proofs.search.times_x.Reads as times-x-reads
+
+abbrev Inv-loop : tie.InvT-loop
+Inv-loop remainder trap₀ power₀ k₀ trap power k = ?
+
+abbrev μ-loop : tie.MeasureT-loop
+μ-loop remainder trap₀ power₀ k₀ trap power k = ?
+
+-- src/search.rt:30:5
+loop-holds : tie.Need-loop-holds Inv-loop μ-loop
+loop-holds c = search needs
+
+-- src/search.rt:31:26
+shr-trap : tie.Need-shr-trap Inv-loop μ-loop
+shr-trap c = search needs
+
+-- src/search.rt:31:24
+mul-trap : tie.Need-mul-trap Inv-loop μ-loop
+mul-trap c = search needs
+
+-- src/search.rt:32:9
+times-x-requires : tie.Need-times-x-requires Inv-loop μ-loop
+times-x-requires c κs = search needs
+
+-- src/search.rt:30:9
+add-k : tie.Need-add-k Inv-loop μ-loop
+add-k c = search needs
+
+-- src/search.rt:30:5
+loop-less : tie.Need-loop-less Inv-loop μ-loop
+loop-less c = search needs
+
+-- src/search.rt:30:5
+loop-again : tie.Need-loop-again Inv-loop μ-loop
+loop-again c = search needs
+
+-- src/search.rt:24:1
+returns : tie.Need-returns Inv-loop μ-loop
+returns c = search needs
+
+pub first-trap-spec : {M : Type 1} → statement M
+first-trap-spec =
+    tie.close
+    (tie.spec
+    Inv-loop
+    μ-loop
+    loop-holds
+    shr-trap
+    mul-trap
+    times-x-requires
+    add-k
+    loop-less
+    loop-again
+    returns)
