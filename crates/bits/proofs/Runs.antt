@@ -64,20 +64,19 @@ digits-octet octets i = octet-digits octets i 8 0 refl ∙ ap (λ (k : ℕ). run
 
 -- ---- the bits from octet i on
 
-unfoldable pub bitsFrom : List ℕ → ℕ → List ℕ
+abbrev pub bitsFrom : List ℕ → ℕ → List ℕ
 bitsFrom octets i = run (bitAt octets) (8 * i) (8 * (length octets - i))
 
 pub from-start : (octets : List ℕ) → bitsFrom octets 0 ≡ bitsOf octets
-unfolding bitsFrom bitsOf
+unfolding bitsOf
 from-start octets = ap (λ (n : ℕ). run (bitAt octets) 0 (8 * n)) (sub-zero (length octets))
 
 pub from-end : (octets : List ℕ) (i : ℕ) → length octets ≤ i → bitsFrom octets i ≡ []
-unfolding bitsFrom run
+unfolding run
 from-end octets i h = let e : 8 * (length octets - i) ≡ 0 = omega arith in ap (run (bitAt octets) (8 * i)) e
 
 -- n octets more
 pub from-next : (octets : List ℕ) (i n : ℕ) → i + n ≤ length octets → bitsFrom octets i ≡ run (bitAt octets) (8 * i) (8 * n) ++ bitsFrom octets (i + n)
-unfolding bitsFrom
 from-next octets i n h =
     ap (run (bitAt octets) (8 * i)) {x = 8 * (length octets - i)} {y = 8 * n + 8 * (length octets - (i + n))} (omega arith)
     ∙ run-append (bitAt octets) (8 * i) (8 * n) (8 * (length octets - (i + n)))

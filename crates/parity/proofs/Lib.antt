@@ -2,6 +2,8 @@
 pub mod Polynomial
 pub mod Remainder
 pub mod Codeword
+pub mod Register
+pub mod Table
 pub mod Factor
 pub mod Cycle
 pub mod Fire

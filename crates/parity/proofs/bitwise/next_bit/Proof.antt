@@ -12,7 +12,8 @@ use borrow.Author.Count.{below-more}
 use borrow.Author.Tests.{le-ltb, lt-ltb, ltb-true, ltb-false, eq-eqb, ne-eqb}
 use lib.ListN.{length, getD, set, take, drop, length-set, length-append, length-take, length-drop}
 use lib.Seq.{take-suc, take-suc-set, take-all}
-use denote.Ref.{now}
+use lib.Bits.{bitXor}
+use Rattle.parity.proofs.Register.{multiple-fits, mask-some, step-code}
 use Rattle.parity.proofs.bitwise.next_bit.Statement.{statement}
 use Rattle.parity.proofs.bitwise.next_bit.Tie as tie
 use Rattle.parity.proofs.bitwise.next_bit.Reads as reads
@@ -24,7 +25,7 @@ shr-top c = search needs
 
 -- src/bitwise.rt:15:6
 mul-result : tie.Need-mul-result
-mul-result c = search needs
+mul-result c = record { fits = multiple-fits (c .args .w) (c .args .g) (bitXor (c .args .r * 2 % 2 ^ 32 / 2 ^ c .args .w) (c .args .bit)) (c .pre .0) (c .pre .1) }
 
 -- src/bitwise.rt:15:25
 shl-result : tie.Need-shl-result
@@ -32,11 +33,11 @@ shl-result c = search needs
 
 -- src/bitwise.rt:15:24
 sub-result : tie.Need-sub-result
-sub-result c = search needs
+sub-result c = mask-some (c .args .w) (c .pre .0)
 
 -- src/bitwise.rt:9:1
 returns : tie.Need-returns
-returns c = search needs
+returns c = step-code (c .args .w) (c .args .g) (c .args .r) (c .args .bit) (c .pre .0) (c .pre .2)
 
 pub next-bit-spec : {M : Type 1} → statement M
 next-bit-spec = tie.close (tie.spec shr-top mul-result shl-result sub-result returns)
