@@ -1,6 +1,6 @@
 -- The code's step of a register of w bits is one bit more of the remainder. Assumes nothing.
-use mathlib.Core.Path.{_≡_, refl, sym, ap, ap₂, _∙_}
-use mathlib.Core.List.{List, [], _∷_, _++_}
+use mathlib.Core.Path.{_≡_, refl, sym, ap, _∙_}
+use mathlib.Core.List.{List, _++_}
 use Prim.Native.Nat.{ℕ, zero, suc, _+_, _-_, _*_, _/_, _%_, _^_, _<_, _≤_}
 use native.Mathlib.Nat.{not-suc-le-zero, one-mul, lt-of-lt-of-le}
 use native.Mathlib.Numerals.{sub-one}
@@ -8,7 +8,7 @@ use native.Mathlib.Omega.{arith}
 use lib.ListN.{length, getD}
 use lib.Pow.{pow-pos, pow-mono, shl-exact}
 use lib.Bits.{bitXor, bitAnd, and-mask, xor-comm}
-use Rattle.bits.specs.Order.{bitAt, run, digits}
+use Rattle.bits.specs.Order.{digits}
 use Rattle.bits.proofs.Xor.{xor-assoc}
 use Rattle.bits.proofs.Runs.{bitsFrom, from-next, from-end, digits-octet}
 use Rattle.parity.specs.Polynomial.{scale, timesX}

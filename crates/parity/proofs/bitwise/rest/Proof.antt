@@ -1,26 +1,16 @@
 -- `parity::bitwise::rest` meets its contract.
 -- Assumes nothing.
 use borrow.Author.Needs.{needs}
-use Prim.Native.Nat.{ℕ, suc, _+_, _-_, _*_, _/_, _%_, _^_, _≤_, _<_}
-use mathlib.Core.Path.{_≡_, refl, sym, ap, _∙_, subst}
-use mathlib.Core.List.{List, [], _∷_, _++_}
-use mathlib.Core.Bool.{Bool, true, false}
-use mathlib.Core.Logic.{⊎-elim}
-use native.Mathlib.Numerals.{add-one}
+use Prim.Native.Nat.{ℕ, _+_, _-_, _^_, _≤_, _<_}
+use mathlib.Core.Path.{_≡_, refl, sym, ap, _∙_}
 use native.Mathlib.Omega.{arith}
-use borrow.Author.Count.{below-more}
-use borrow.Author.Tests.{le-ltb, lt-ltb, ltb-true, ltb-false, eq-eqb, ne-eqb}
-use lib.ListN.{length, getD, set, take, drop, length-set, length-append, length-take, length-drop}
-use lib.Seq.{take-suc, take-suc-set, take-all}
+use lib.ListN.{length}
 use Rattle.bits.proofs.Runs.{bitsFrom}
 use Rattle.parity.specs.Remainder.{remainderFrom}
 use Rattle.parity.proofs.Remainder.{from-lt}
 use Rattle.parity.proofs.Register.{next-octets, no-octets}
 use Rattle.parity.proofs.bitwise.rest.Statement.{statement}
 use Rattle.parity.proofs.bitwise.rest.Tie as tie
-use Rattle.parity.proofs.bitwise.rest.Reads as reads
-use Rattle.parity.proofs.bitwise.rest.Lts as lts
-use Rattle.parity.proofs.bitwise.next_octet.Reads as next-octet-reads
 
 abbrev Inv-loop : tie.InvT-loop
 Inv-loop w g r octets from s₀ i₀ i-end s i = (i ≤ length octets) × (i-end ≡ length octets) × (s < 2 ^ w) × (remainderFrom w g s (bitsFrom octets i) ≡ remainderFrom w g r (bitsFrom octets from))
@@ -28,35 +18,28 @@ Inv-loop w g r octets from s₀ i₀ i-end s i = (i ≤ length octets) × (i-end
 abbrev μ-loop : tie.MeasureT-loop
 μ-loop w g r octets from s₀ i₀ i-end s i = length octets - i
 
--- src/bitwise.rt:39:5
 loop-holds : tie.Need-loop-holds Inv-loop μ-loop
 loop-holds c = (search needs, search needs, c .before .pre .2, refl)
 
--- src/bitwise.rt:40:33
 shared-slice-read-next-octet : tie.Need-shared-slice-read-next-octet Inv-loop μ-loop
 shared-slice-read-next-octet c = search needs
 
--- src/bitwise.rt:40:9
 next-octet-requires : tie.Need-next-octet-requires Inv-loop μ-loop
 next-octet-requires c κs =
     let p = c .before .before .before .before .pre in
     (p .0, p .1, c .before .before .loop .inv .2)
 
--- src/bitwise.rt:39:9
 add-i : tie.Need-add-i Inv-loop μ-loop
 add-i c = search needs
 
--- src/bitwise.rt:39:5
 loop-less : tie.Need-loop-less Inv-loop μ-loop
 loop-less c = search needs
 
--- src/bitwise.rt:39:5
 loop-again : tie.Need-loop-again Inv-loop μ-loop
 loop-again c =
     let l = c .before .before .before .loop in
     let a = c .before .before .before .before .before .args in
-    let e = c .next-octet .ensures in
-    (
+    let e = c .next-octet .ensures in (
       search needs,
       l .inv .1,
       rw e (from-lt (a .w) (a .g) (c .before .before .before .before .before .pre .1) (l .s) _ (l .inv .2)),
@@ -64,7 +47,6 @@ loop-again c =
           ∙ next-octets (a .w) (a .g) (l .s) (l .i) (a .octets .now) (omega arith) ∙ l .inv .3,
     )
 
--- src/bitwise.rt:34:1
 returns : tie.Need-returns Inv-loop μ-loop
 returns c =
     let l = c .before .loop in

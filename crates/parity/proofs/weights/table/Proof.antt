@@ -1,11 +1,9 @@
 -- `parity::weights::table` meets its contract: one test over the whole table, which the checker computes.
 -- Assumes nothing.
-use Prim.Native.Nat.{ℕ}
-use mathlib.Core.Path.{_≡_, refl}
-use lib.Dec.{T}
+use mathlib.Core.Path.{refl}
 use Rattle.parity.specs.Polynomial.{scale, timesX}
 use Rattle.parity.specs.Codeword.{fec}
-use Rattle.parity.proofs.Table.{chained, table}
+use Rattle.parity.proofs.Table.{table}
 use Rattle.parity.proofs.weights.table.Statement.{statement}
 use Rattle.parity.proofs.weights.table.Tie as tie
 
