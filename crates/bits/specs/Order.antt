@@ -1,8 +1,8 @@
 -- The order of bits: octet by octet, most significant bit first. Clause 7.2.2; document 01, "From octets to lane bits".
 -- A bit is a number, 0 or 1; a stream of bits is a function from places to bits. Assumes nothing.
-use mathlib.Core.List.{List, [], _∷_}
+use mathlib.Core.List.{List, [], _∷_, _++_}
 use Prim.Native.Nat.{ℕ, zero, suc, _+_, _-_, _*_, _/_, _%_, _^_}
-use lib.ListN.{getD, length}
+use lib.ListN.{getD, length, drop}
 
 -- bit k of some octets; 0 past their end
 unfoldable pub bitAt : List ℕ → ℕ → ℕ
@@ -22,7 +22,18 @@ unfoldable pub number : (ℕ → ℕ) → ℕ → ℕ → ℕ
 number f k zero = 0
 number f k (suc n) = number f k n * 2 + f (k + n)
 
--- the n low bits of a number, highest first
+-- the n low bits of a number, highest first: as a stream, and as a list
+unfoldable pub digit : ℕ → ℕ → ℕ → ℕ
+digit n v j = v / 2 ^ (n - 1 - j) % 2
+
 unfoldable pub digits : ℕ → ℕ → List ℕ
 digits zero v = []
 digits (suc n) v = v / 2 ^ n % 2 ∷ digits n v
+
+-- n octets made of a stream's bits
+unfoldable pub octetsOf : (ℕ → ℕ) → ℕ → List ℕ
+octetsOf f n = run (λ j. number f (8 * j) 8) 0 n
+
+-- a list laid over the start of another, which keeps the rest
+unfoldable pub laid : List ℕ → List ℕ → List ℕ
+laid new old = new ++ drop (length new) old
