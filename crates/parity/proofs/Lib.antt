@@ -2,6 +2,7 @@
 pub mod Polynomial
 pub mod Remainder
 pub mod Codeword
+pub mod Words
 pub mod Factor
 pub mod Cycle
 pub mod Fire

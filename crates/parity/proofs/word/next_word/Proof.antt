@@ -13,6 +13,8 @@ use borrow.Author.Tests.{le-ltb, lt-ltb, ltb-true, ltb-false, eq-eqb, ne-eqb}
 use lib.ListN.{length, getD, set, take, drop, length-set, length-append, length-take, length-drop}
 use lib.Seq.{take-suc, take-suc-set, take-all}
 use denote.Ref.{now}
+use lib.Bits.{bitAnd, bitXor, and-le-r}
+use Rattle.parity.proofs.Words.{product, quotient, ups, downs, shifts, masked}
 use Rattle.parity.proofs.word.next_word.Statement.{statement}
 use Rattle.parity.proofs.word.next_word.Tie as tie
 use Rattle.parity.proofs.word.next_word.Reads as reads
@@ -25,11 +27,16 @@ wide-requires c κs = search needs
 
 -- src/word.rt:25:5
 cast-result : tie.Need-cast-result
-cast-result c = search needs
+unfolding product quotient ups downs shifts
+cast-result c =
+    omega (arith, and-le-r (product (bitXor (c .before .args .word) (c .wide .result * 2 ^ 38 % 2 ^ 64))) 0x3ffffff)
 
 -- src/word.rt:16:1
 returns : tie.Need-returns
-returns c = search needs
+unfolding product quotient ups downs shifts
+returns c =
+    let a = c .before .args in
+    ap (λ (r : ℕ). bitAnd (product (bitXor (a .word) (r * 2 ^ 38 % 2 ^ 64))) 0x3ffffff) (c .wide .ensures) ∙ masked (a .r) (a .word) (c .before .pre) (omega arith)
 
 pub next-word-spec : {M : Type 1} → statement M
 next-word-spec = tie.close (tie.spec wide-requires cast-result returns)
