@@ -4,6 +4,7 @@ pub mod Remainder
 pub mod Codeword
 pub mod Register
 pub mod Table
+pub mod Words
 pub mod Factor
 pub mod Cycle
 pub mod Fire

@@ -1,10 +1,10 @@
 -- Laws of the remainder, once over width and polynomial: it adds up, it is below 2^w, and it goes on where it was left. Assumes nothing.
 use mathlib.Core.Path.{_≡_, refl, ap, ap₂, _∙_}
 use mathlib.Core.List.{List, [], _∷_, _++_}
-use Prim.Native.Nat.{ℕ, zero, suc, _+_, _^_, _<_}
+use Prim.Native.Nat.{ℕ, zero, suc, _+_, _/_, _%_, _^_, _<_}
 use lib.Pow.{pow-pos}
-use lib.Bits.{bitXor, xor-lt}
-use Rattle.bits.specs.Order.{run}
+use lib.Bits.{bitXor, xor-lt, xor-shr, xor-mod}
+use Rattle.bits.specs.Order.{run, digits}
 use Rattle.bits.proofs.Xor.{xor-swap}
 use Rattle.parity.specs.Polynomial.{scale, timesX}
 use Rattle.parity.specs.Remainder.{next, remainderFrom, remainder}
@@ -29,6 +29,15 @@ module _ (w g : ℕ) where
   pub linear : (f h : ℕ → ℕ) (k n : ℕ) → remainder w g (run (λ p. bitXor (f p) (h p)) k n) ≡ bitXor (remainder w g (run f k n)) (remainder w g (run h k n))
   unfolding remainder
   linear f h k n = from-linear f h k n 0 0
+
+  -- two numbers' digits
+  pub from-digits : (n r s x y : ℕ) → remainderFrom w g (bitXor r s) (digits n (bitXor x y)) ≡ bitXor (remainderFrom w g r (digits n x)) (remainderFrom w g s (digits n y))
+  unfolding remainderFrom digits
+  from-digits zero r s x y = refl
+  from-digits (suc n) r s x y =
+      ap (λ (b : ℕ). remainderFrom w g (next w g (bitXor r s) b) (digits n (bitXor x y))) (ap (λ (z : ℕ). z % 2) (xor-shr x y n) ∙ xor-mod (x / 2 ^ n) (y / 2 ^ n) 1)
+      ∙ ap (λ (z : ℕ). remainderFrom w g z (digits n (bitXor x y))) (next-xor r s (x / 2 ^ n % 2) (y / 2 ^ n % 2))
+      ∙ from-digits n (next w g r (x / 2 ^ n % 2)) (next w g s (y / 2 ^ n % 2)) x y
 
   pub from-append : (r : ℕ) (xs ys : List ℕ) → remainderFrom w g r (xs ++ ys) ≡ remainderFrom w g (remainderFrom w g r xs) ys
   unfolding remainderFrom
