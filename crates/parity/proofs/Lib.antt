@@ -7,3 +7,4 @@ pub mod Cycle
 pub mod Fire
 pub mod Bursts
 pub mod Sets
+pub mod Trap

@@ -12,7 +12,8 @@ use borrow.Author.Count.{below-more}
 use borrow.Author.Tests.{le-ltb, lt-ltb, ltb-true, ltb-false, eq-eqb, ne-eqb}
 use lib.ListN.{length, getD, set, take, drop, length-set, length-append, length-take, length-drop}
 use lib.Seq.{take-suc, take-suc-set, take-all}
-use denote.Ref.{now}
+use native.Mathlib.Nat.{mod-eq-of-lt}
+use Rattle.parity.proofs.Trap.{times-x}
 use Rattle.parity.proofs.search.times_x.Statement.{statement}
 use Rattle.parity.proofs.search.times_x.Tie as tie
 use Rattle.parity.proofs.search.times_x.Reads as reads
@@ -24,7 +25,7 @@ mul-result c = search needs
 
 -- src/search.rt:15:1
 returns : tie.Need-returns
-returns c = search needs
+returns c = times-x (c .args .r) (c .args .r * 2 % 2 ^ 32) (c .pre) (mod-eq-of-lt (omega arith))
 
 pub times-x-spec : {M : Type 1} → statement M
 times-x-spec = tie.close (tie.spec mul-result returns)
