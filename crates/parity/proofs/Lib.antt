@@ -8,3 +8,4 @@ pub mod Fire
 pub mod Bursts
 pub mod Sets
 pub mod Trap
+pub mod Answer
