@@ -1,5 +1,5 @@
--- Every remainder has one answer of the burst search: document 01, "What the receiver releases". So the answer is a function of the remainder,
--- and a remainder past 26 bits, and 0, are made by no burst. Assumes nothing.
+-- Every remainder has one answer of the burst search, which is thus a function of the remainder: document 01, "What the receiver releases".
+-- No burst makes 0, nor a number past 26 bits. Assumes nothing.
 use mathlib.Core.Path.{_≡_, refl, sym, ap₂, _∙_, subst}
 use mathlib.Core.Logic.{_⊎_, inl, inr}
 use Prim.Native.Nat.{ℕ, zero, suc, _-_, _%_, _^_, _<_}
@@ -23,7 +23,8 @@ found-place e = (starts (e .burst), e .burst .odd, e .burst .short)
 
 pub explained-lt : {s place pattern : ℕ} → Explains s place pattern → s < 2 ^ 26
 unfolding remainderOf
-explained-lt {s} {place} {pattern} e = subst (λ (x : ℕ). x < 2 ^ 26) (e .makes) (weighed-lt fec (fec-proper .some) (fec-proper .fits) (flips place pattern) 0 2074)
+explained-lt {s} {place} {pattern} e =
+    subst (λ (x : ℕ). x < 2 ^ 26) (e .makes) (weighed-lt fec (fec-proper .some) (fec-proper .fits) (flips place pattern) 0 2074)
 
 -- ---- at most one answer
 
@@ -73,7 +74,8 @@ place-below s (suc n) = go (place-below s n) (pattern-below s n 512)
         → Answered s ⊎ ((p : ℕ) → p < suc n → (q : ℕ) → Explains s p q → ⊥)
     go (inl a) d = inl a
     go (inr f) (inl a) = inl a
-    go (inr f) (inr d) = inr (λ p h. below-more (λ (p : ℕ). (q : ℕ) → Explains s p q → ⊥) n f (λ q e. d q (e .burst .short) e) p (rw add-one h))
+    go (inr f) (inr d) =
+        inr (λ p h. below-more (λ (p : ℕ). (q : ℕ) → Explains s p q → ⊥) n f (λ q e. d q (e .burst .short) e) p (rw add-one h))
 
 answered : (s : ℕ) → Answered s
 answered s = go (place-below s 2074)
@@ -82,7 +84,7 @@ answered s = go (place-below s 2074)
     go (inl a) = a
     go (inr f) = record { answer = Nothing; holds = λ p q e. f p (starts (e .burst)) q e }
 
--- ---- the answer as a function
+-- ---- the answer as a function, which stays shut outside this file: the two laws say all of it
 
 pub burstFor : ℕ → Burst
 burstFor s = answered s .answer

@@ -1,26 +1,25 @@
--- Error trapping under the Fire code: the trap for a place is a remainder times x^(place - 2065). The trap for place 0 is a sum over the
--- remainder's bits, the next one is x times it, and a burst that begins at the place stands in it, turned round. Past place 2065 the burst
--- stands in the remainder itself. Document 01, "What the receiver releases". Assumes nothing.
+-- Error trapping under the Fire code: the trap for a place is the remainder times x^(place - 2065). For place 0 it is a sum over the remainder's
+-- bits, and for each next place it is x times what it was. A burst that begins at the place stands in it, turned round; past place 2065 the burst
+-- stands in the remainder itself. And the sum of a burst's weights, bit by bit. Document 01, "What the receiver releases". Assumes nothing.
 use mathlib.Core.Path.{_≡_, refl, sym, ap, ap₂, _∙_, subst}
+use mathlib.Core.List.{List}
 use Prim.Native.Nat.{ℕ, zero, suc, _+_, _-_, _*_, _/_, _%_, _^_, _≤_, _<_}
-use native.Mathlib.Nat.{one-mul, zero-mul, zero-add, mod-one, mod-eq-of-lt, mod-lt, zero-lt-suc, lt-of-lt-of-le, pow-suc}
+use native.Mathlib.Nat.{one-mul, zero-mul, zero-add, mod-one, mod-eq-of-lt, mod-lt, lt-of-lt-of-le, pow-suc}
 use native.Mathlib.Numerals.{add-one, one-add}
 use native.Mathlib.Omega.{arith}
-use mathlib.Core.List.{List}
 use lib.ListN.{getD}
 use lib.Arith.{lt-one, digits-div}
 use lib.Dec.{lit<, lit≤}
-use lib.Pow.{pow-pos, pow-mono, mod-pow-add}
+use lib.Pow.{pow-pos, mod-pow-add}
 use lib.Bits.{bitXor, bitAnd, and-mask, xor-lt, xor-comm, xor-shifted, xor-zero-r}
 use Rattle.bits.specs.Order.{run}
 use Rattle.bits.proofs.Runs.{getD-run}
 use Rattle.bits.proofs.Xor.{bit-cases, odd-lt, xor-assoc}
 use Rattle.parity.specs.Polynomial.{scale, timesX, timesPower}
-use Rattle.parity.specs.Codeword.{fec, weight, remainderOf}
-use Rattle.parity.specs.Bursts.{IsBurst, flips}
+use Rattle.parity.specs.Codeword.{fec, weight}
 use Rattle.parity.specs.Answer.{Explains}
-use Rattle.parity.proofs.Polynomial.{half-lt, top-lt, scale-zero, scale-one, scale-lt, timesX-lt, timesPower-xor, timesPower-zero, timesPower-scale, timesPower-in, timesPower-add, timesPower-injective, power-low}
-use Rattle.parity.proofs.Bursts.{fec-proper, starts, patternSum, mirror, mirror-lt, early, late-high, late-lt, nine-bits}
+use Rattle.parity.proofs.Polynomial.{half-lt, top-lt, scale-lt, timesX-lt, timesPower-xor, timesPower-zero, timesPower-scale, timesPower-in, timesPower-injective, power-low}
+use Rattle.parity.proofs.Bursts.{fec-proper, starts, patternSum, mirror, early, late-high, late-lt, nine-bits}
 
 -- ---- times x, as the code has it
 
@@ -67,7 +66,7 @@ gather-none s =
       sum = timesPower-zero 26 0x0220211 2065 ∙ sym (mod-one s);
     }
 
--- the bit k of s times the power, as the code has it
+-- bit k of s times the power, as the code has it
 pub gather-bit : (s k power : ℕ) → bitAnd (s / 2 ^ k) 1 * power ≡ scale (s / 2 ^ k) power
 unfolding scale
 gather-bit s k power = ap (λ (x : ℕ). x * power) (and-mask (s / 2 ^ k) 1)
@@ -89,9 +88,11 @@ module _ (s k trap power : ℕ) (l : k < 26) (g : Gathered s k trap power) where
         trap-lt = rw (gather-bit s k power) (xor-lt 26 trap (scale (s / 2 ^ k) power) (g .trap-lt) (scale-lt 26 (s / 2 ^ k) power (g .power-lt)));
         power-lt = timesX-lt 26 0x0220211 power (fec-proper .fits);
         next =
-            timesPower-in 26 0x0220211 2065 power ∙ unfold timesPower in ap (timesX 26 0x0220211) (g .next) ∙ ap (λ (n : ℕ). timesPower 26 0x0220211 n 1) (sym (add-one k));
+            timesPower-in 26 0x0220211 2065 power
+            ∙ unfold timesPower in ap (timesX 26 0x0220211) (g .next) ∙ ap (λ (n : ℕ). timesPower 26 0x0220211 n 1) (sym (add-one k));
         sum =
-            ap (λ (x : ℕ). timesPower 26 0x0220211 2065 (bitXor trap x)) (gather-bit s k power) ∙ sum-more ∙ ap (λ (n : ℕ). s % 2 ^ n) (one-add k ∙ sym (add-one k));
+            ap (λ (x : ℕ). timesPower 26 0x0220211 2065 (bitXor trap x)) (gather-bit s k power)
+            ∙ sum-more ∙ ap (λ (n : ℕ). s % 2 ^ n) (one-add k ∙ sym (add-one k));
       }
 
 -- ---- the trap for the next place
@@ -105,17 +106,17 @@ trap-next s place trap t l =
 
 -- ---- a burst in the trap
 
--- a number with the bit n highest
+-- a number whose highest bit is n
 top-one : (n s : ℕ) → 2 ^ n ≤ s → s < 2 ^ suc n → s / 2 ^ n ≡ 1
 top-one n s l h =
     let twice : 2 ^ suc n ≡ 2 ^ n * 2 = pow-suc 2 n in
     let once : 1 * 2 ^ n ≡ 2 ^ n = one-mul (2 ^ n) in
     ap (λ (x : ℕ). x / 2 ^ n) {x = s} {y = 1 * 2 ^ n + (s - 2 ^ n)} (omega arith) ∙ digits-div 1 (omega arith)
 
-module _ (s trap place pattern : ℕ) (e : Explains s place pattern) where
+module _ (s place pattern : ℕ) (e : Explains s place pattern) where
   -- the pattern turned round is the trap
-  pub trap-shows : place ≤ 2065 → trap < 2 ^ 26 → timesPower 26 0x0220211 (2065 - place) trap ≡ s → trap / 2 ^ 8 ≡ 1
-  trap-shows l h t =
+  pub trap-shows : (trap : ℕ) → trap < 2 ^ 26 → place ≤ 2065 → timesPower 26 0x0220211 (2065 - place) trap ≡ s → trap / 2 ^ 8 ≡ 1
+  trap-shows trap h l t =
       let bits = nine-bits pattern (e .burst .odd) in
       let same : trap ≡ mirror 9 pattern =
       timesPower-injective 26 0x0220211 (fec-proper .some) (fec-proper .fits) (fec-proper .odd) (2065 - place) trap (mirror 9 pattern)
@@ -128,8 +129,10 @@ module _ (s trap place pattern : ℕ) (e : Explains s place pattern) where
   remainder-shows l =
       let inside : place < 2074 = starts (e .burst) in
       top-one (2074 - place - 1) s
-      (subst (λ (n : ℕ). 2 ^ n ≤ s) {x = 2073 - place} {y = 2074 - place - 1} (omega arith) (subst (λ (x : ℕ). 2 ^ (2073 - place) ≤ x) (e .makes) (late-high fec 9 place pattern (lit≤ tt) (e .burst) (omega arith))))
-      (subst (λ (n : ℕ). s < 2 ^ n) {x = 2074 - place} {y = suc (2074 - place - 1)} (omega arith) (subst (λ (x : ℕ). x < 2 ^ (2074 - place)) (e .makes) (late-lt fec 9 place pattern (lit≤ tt) (e .burst) (omega arith))))
+      (subst (λ (n : ℕ). 2 ^ n ≤ s) {x = 2073 - place} {y = 2074 - place - 1} (omega arith)
+      (subst (λ (x : ℕ). 2 ^ (2073 - place) ≤ x) (e .makes) (late-high fec 9 place pattern (lit≤ tt) (e .burst) (omega arith))))
+      (subst (λ (n : ℕ). s < 2 ^ n) {x = 2074 - place} {y = suc (2074 - place - 1)} (omega arith)
+      (subst (λ (x : ℕ). x < 2 ^ (2074 - place)) (e .makes) (late-lt fec 9 place pattern (lit≤ tt) (e .burst) (omega arith))))
 
 -- ---- the sum of a burst's weights, as the code takes it: bit by bit
 

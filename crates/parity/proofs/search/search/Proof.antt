@@ -1,17 +1,10 @@
 -- `parity::search::search` meets its contract.
 -- Assumes nothing.
 use borrow.Author.Needs.{needs}
-use Prim.Native.Nat.{ℕ, suc, _+_, _-_, _*_, _/_, _%_, _^_, _≤_, _<_}
-use mathlib.Core.Path.{_≡_, refl, sym, ap, _∙_, subst}
-use mathlib.Core.List.{List, [], _∷_, _++_}
-use mathlib.Core.Bool.{Bool, true, false}
-use mathlib.Core.Logic.{⊎-elim}
-use native.Mathlib.Numerals.{add-one}
+use Prim.Native.Nat.{ℕ, _+_, _-_, _%_, _^_, _≤_, _<_}
+use mathlib.Core.Path.{_≡_, refl, sym, _∙_, subst}
 use native.Mathlib.Omega.{arith}
 use borrow.Author.Count.{below-more}
-use borrow.Author.Tests.{le-ltb, lt-ltb, ltb-true, ltb-false, eq-eqb, ne-eqb}
-use lib.ListN.{length, getD, set, take, drop, length-set, length-append, length-take, length-drop}
-use lib.Seq.{take-suc, take-suc-set, take-all}
 use Rattle.parity.specs.declared.Burst.the-variants.{Nothing}
 use Rattle.parity.specs.Polynomial.{timesPower}
 use Rattle.parity.specs.Answer.{Explains, Answer}
@@ -20,15 +13,10 @@ use Rattle.parity.proofs.Bursts.{fec-proper, starts}
 use Rattle.parity.proofs.Trap.{trap-next}
 use Rattle.parity.proofs.search.search.Statement.{statement}
 use Rattle.parity.proofs.search.search.Tie as tie
-use Rattle.parity.proofs.search.search.Reads as reads
-use Rattle.parity.proofs.search.search.Lts as lts
-use Rattle.parity.proofs.search.first_trap.Reads as first-trap-reads
-use Rattle.parity.proofs.search.patterns_below.Reads as patterns-below-reads
-use Rattle.parity.proofs.search.sum_of.Reads as sum-of-reads
-use Rattle.parity.proofs.search.times_x.Reads as times-x-reads
 
 abbrev Inv-loop : tie.InvT-loop
-Inv-loop weights remainder found₀ trap place end pattern₀ found pattern = (pattern % 2 ≡ 1) × (pattern ≤ 513) × (found ≡ Nothing) × ((q : ℕ) → q < pattern → Explains remainder place q → ⊥)
+Inv-loop weights remainder found₀ trap place end pattern₀ found pattern =
+    (pattern % 2 ≡ 1) × (pattern ≤ 513) × (found ≡ Nothing) × ((q : ℕ) → q < pattern → Explains remainder place q → ⊥)
 
 abbrev μ-loop : tie.MeasureT-loop
 μ-loop weights remainder found₀ trap place end pattern₀ found pattern = 513 - pattern
@@ -41,48 +29,39 @@ Inv-search weights remainder found₀ trap₀ place₀ found trap place =
 abbrev μ-search : tie.MeasureT-search
 μ-search weights remainder found₀ trap₀ place₀ found trap place = 2074 - place
 
--- src/search.rt:81:9
 first-trap-requires : tie.Need-first-trap-requires Inv-loop μ-loop Inv-search μ-search
 first-trap-requires c κs = search needs
 
--- src/search.rt:82:5
 search-holds : tie.Need-search-holds Inv-loop μ-loop Inv-search μ-search
 search-holds c = (search needs, refl, c .first-trap .ensures .0, λ l. c .first-trap .ensures .1, λ p h q z. omega arith)
 
--- src/search.rt:83:13
 patterns-below-requires : tie.Need-patterns-below-requires Inv-loop μ-loop Inv-search μ-search
 patterns-below-requires c κs =
     let i = c .before .search in
     ((c .before .before .before .pre .1, i .inv .2, search needs), i .inv .3)
 
--- src/search.rt:85:9
 loop-holds : tie.Need-loop-holds Inv-loop μ-loop Inv-search μ-search
 loop-holds c = (refl, search needs, c .before .before .search .inv .1, λ q h z. let odd : q % 2 ≡ 1 = z .burst .odd in omega arith)
 
--- src/search.rt:86:16
 sum-of-requires : tie.Need-sum-of-requires Inv-loop μ-loop Inv-search μ-search
 sum-of-requires c κs =
     let l = c .before .loop in
     let below = c .before .before .patterns-below .ensures in
-    (c .before .before .before .before .before .before .pre .0, record { odd = l .inv .0; short = omega (arith, below .0); inside = omega (arith, below .1) })
+    let known = c .before .before .before .before .before .before .pre in
+    (known .0, record { odd = l .inv .0; short = omega (arith, below .0); inside = omega (arith, below .1) })
 
--- src/search.rt:87:35
 cast-t11 : tie.Need-cast-t11 Inv-loop μ-loop Inv-search μ-search
 cast-t11 c = search needs
 
--- src/search.rt:87:49
 cast-t12 : tie.Need-cast-t12 Inv-loop μ-loop Inv-search μ-search
 cast-t12 c = search needs
 
--- src/search.rt:90:13
 add-pattern : tie.Need-add-pattern Inv-loop μ-loop Inv-search μ-search
 add-pattern c = search needs
 
--- src/search.rt:85:9
 loop-less : tie.Need-loop-less Inv-loop μ-loop Inv-search μ-search
 loop-less c = search needs
 
--- src/search.rt:85:9
 loop-again : tie.Need-loop-again Inv-loop μ-loop Inv-search μ-search
 loop-again c =
     let l = c .before .before .before .loop in
@@ -90,22 +69,20 @@ loop-again c =
       search needs,
       omega (arith, below .0),
       l .inv .2,
-      λ q h z. below-more _ (l .pattern + 1) (below-more _ (l .pattern) (l .inv .3) (λ y. c .if1 .left (c .before .sum-of .ensures ∙ y .makes))) (λ y. omega (arith, y .burst .odd)) q (omega arith) z,
+      λ q h z. below-more _ (l .pattern + 1)
+          (below-more _ (l .pattern) (l .inv .3) (λ y. c .if1 .left (c .before .sum-of .ensures ∙ y .makes)))
+          (λ y. omega (arith, y .burst .odd)) q (omega arith) z,
     )
 
--- src/search.rt:92:9
 times-x-requires : tie.Need-times-x-requires Inv-loop μ-loop Inv-search μ-search
 times-x-requires c κs = c .before .before .before .before .search .inv .2
 
--- src/search.rt:82:18
 add-place : tie.Need-add-place Inv-loop μ-loop Inv-search μ-search
 add-place c = search needs
 
--- src/search.rt:82:5
 search-less : tie.Need-search-less Inv-loop μ-loop Inv-search μ-search
 search-less c = search needs
 
--- src/search.rt:82:5
 search-again : tie.Need-search-again Inv-loop μ-loop Inv-search μ-search
 search-again c =
     let l = c .before .before .loop in
@@ -119,13 +96,11 @@ search-again c =
       below-more _ (i .place) (i .inv .4) (λ q z. l .inv .3 q (omega (arith, below .2 q z)) z),
     )
 
--- src/search.rt:75:1
 returns : tie.Need-returns Inv-loop μ-loop Inv-search μ-search
 returns c =
     let i = c .before .search in
     subst (Answer (c .before .before .before .args .remainder)) (sym (i .inv .1)) (λ p q z. i .inv .4 p (omega (arith, starts (z .burst))) q z)
 
--- src/search.rt:75:1
 returns-2 : tie.Need-returns-2 Inv-loop μ-loop Inv-search μ-search
 returns-2 c =
     let l = c .before .before .before .loop in
