@@ -3,7 +3,8 @@ use mathlib.Core.Path.{_≡_, refl, sym, ap, ap₂, _∙_}
 use Prim.Native.Nat.{ℕ, zero, suc, _+_, _-_, _*_, _/_, _%_, _^_, _≤_, _<_}
 use native.Mathlib.Nat.{add-zero, zero-add, add-suc, suc-add, le-refl, mod-eq-of-lt, div-one, zero-lt-suc}
 use native.Mathlib.Omega.{arith}
-use lib.Bits.{bitXor, xor-comm, xor-zero-r, xor-shifted}
+use lib.Pow.{pow-pos, pow-lt}
+use lib.Bits.{bitXor, xor-lt, xor-comm, xor-zero-r, xor-shifted}
 use borrow.Author.Tests.{lt-ltb, le-ltb}
 use Rattle.bits.specs.Order.{run, number}
 use Rattle.bits.proofs.Xor.{odd-lt, xor-assoc, xor-swap}
@@ -11,7 +12,7 @@ use Rattle.bits.proofs.Numbers.{number-first, number-lt, number-ext, number-dig
 use Rattle.parity.specs.Polynomial.{scale, timesX, timesPower, power}
 use Rattle.parity.specs.Remainder.{next, remainderFrom, remainder}
 use Rattle.parity.specs.Codeword.{Code, weight, codeword, weighed, remainderOf}
-use Rattle.parity.proofs.Polynomial.{scale-xor, timesPower-xor, timesPower-zero, timesPower-scale, timesPower-in, timesPower-add, power-low, power-width}
+use Rattle.parity.proofs.Polynomial.{scale-xor, scale-lt, timesPower-xor, timesPower-zero, timesPower-scale, timesPower-in, timesPower-add, timesPower-lt, power-low, power-width}
 
 module _ (C : Code) where
   -- the same positions set, the same sum
@@ -38,6 +39,15 @@ module _ (C : Code) where
   weighed-xor f h p (suc n) =
       ap₂ bitXor (scale-xor (f p) (h p) (weight C p)) (weighed-xor f h (suc p) n)
       ∙ xor-swap (scale (f p) (weight C p)) (scale (h p) (weight C p)) (weighed C f (suc p) n) (weighed C h (suc p) n)
+
+  -- no sum outgrows the width
+  pub weighed-lt : 0 < C .width → C .lower < 2 ^ C .width → (f : ℕ → ℕ) (p n : ℕ) → weighed C f p n < 2 ^ C .width
+  unfolding weighed weight
+  weighed-lt some fits f p zero = pow-pos (C .width)
+  weighed-lt some fits f p (suc n) =
+      xor-lt (C .width) (scale (f p) (weight C p)) (weighed C f (suc p) n)
+      (scale-lt (C .width) (f p) (weight C p) (timesPower-lt (C .width) (C .lower) (C .positions - 1 - p) 1 fits (pow-lt some)))
+      (weighed-lt some fits f (suc p) n)
 
   module _ (some : 0 < C .width) where
     abbrev w : ℕ

@@ -10,3 +10,5 @@ pub mod Cycle
 pub mod Fire
 pub mod Bursts
 pub mod Sets
+pub mod Trap
+pub mod Answer

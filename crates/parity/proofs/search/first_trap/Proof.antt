@@ -1,61 +1,57 @@
 -- `parity::search::first_trap` meets its contract.
 -- Assumes nothing.
 use borrow.Author.Needs.{needs}
-use Prim.Native.Nat.{ℕ, suc, _+_, _-_, _*_, _/_, _%_, _^_, _≤_, _<_}
-use mathlib.Core.Path.{_≡_, refl, sym, ap, _∙_, subst}
-use mathlib.Core.List.{List, [], _∷_, _++_}
-use mathlib.Core.Bool.{Bool, true, false}
-use mathlib.Core.Logic.{⊎-elim}
-use native.Mathlib.Numerals.{add-one}
+use Prim.Native.Nat.{ℕ, _-_, _/_, _%_, _^_, _≤_, _<_}
+use mathlib.Core.Path.{_≡_, ap, _∙_}
 use native.Mathlib.Omega.{arith}
-use borrow.Author.Count.{below-more}
-use borrow.Author.Tests.{le-ltb, lt-ltb, ltb-true, ltb-false, eq-eqb, ne-eqb}
-use lib.ListN.{length, getD, set, take, drop, length-set, length-append, length-take, length-drop}
-use lib.Seq.{take-suc, take-suc-set, take-all}
-use denote.Ref.{now}
+use native.Mathlib.Nat.{mod-eq-of-lt}
+use Rattle.parity.specs.Polynomial.{scale}
+use Rattle.parity.proofs.Polynomial.{scale-lt}
+use Rattle.parity.proofs.Trap.{Gathered, gather-none, gather-bit, gather-more}
 use Rattle.parity.proofs.search.first_trap.Statement.{statement}
 use Rattle.parity.proofs.search.first_trap.Tie as tie
-use Rattle.parity.proofs.search.first_trap.Reads as reads
-use Rattle.parity.proofs.search.first_trap.Lts as lts
-use Rattle.parity.proofs.search.times_x.Reads as times-x-reads
 
 abbrev Inv-loop : tie.InvT-loop
-Inv-loop remainder trap₀ power₀ k₀ trap power k = ?
+Inv-loop remainder trap₀ power₀ k₀ trap power k = (k ≤ 26) × Gathered remainder k trap power
 
 abbrev μ-loop : tie.MeasureT-loop
-μ-loop remainder trap₀ power₀ k₀ trap power k = ?
+μ-loop remainder trap₀ power₀ k₀ trap power k = 26 - k
 
--- src/search.rt:30:5
 loop-holds : tie.Need-loop-holds Inv-loop μ-loop
-loop-holds c = search needs
+loop-holds c = (search needs, gather-none (c .args .remainder))
 
--- src/search.rt:31:26
 shr-trap : tie.Need-shr-trap Inv-loop μ-loop
 shr-trap c = search needs
 
--- src/search.rt:31:24
 mul-trap : tie.Need-mul-trap Inv-loop μ-loop
-mul-trap c = search needs
+mul-trap c =
+    let l = c .before .loop in
+    let s = c .before .before .args .remainder in
+    let h : scale (s / 2 ^ l .k) (l .power) < 2 ^ 26 = scale-lt 26 (s / 2 ^ l .k) (l .power) (l .inv .1 .power-lt) in
+    rw (gather-bit s (l .k) (l .power)) (omega arith)
 
--- src/search.rt:32:9
 times-x-requires : tie.Need-times-x-requires Inv-loop μ-loop
-times-x-requires c κs = search needs
+times-x-requires c κs = c .before .loop .inv .1 .power-lt
 
--- src/search.rt:30:9
 add-k : tie.Need-add-k Inv-loop μ-loop
 add-k c = search needs
 
--- src/search.rt:30:5
 loop-less : tie.Need-loop-less Inv-loop μ-loop
 loop-less c = search needs
 
--- src/search.rt:30:5
 loop-again : tie.Need-loop-again Inv-loop μ-loop
-loop-again c = search needs
+loop-again c =
+    let l = c .before .before .loop in (
+      search needs,
+      rw (c .times-x .ensures) (gather-more (c .before .before .before .args .remainder) (l .k) (l .trap) (l .power) (search needs) (l .inv .1)),
+    )
 
--- src/search.rt:24:1
 returns : tie.Need-returns Inv-loop μ-loop
-returns c = search needs
+returns c =
+    let l = c .before .loop in
+    let s = c .before .before .args .remainder in
+    let k : l .k ≡ 26 = omega arith in
+    (l .inv .1 .trap-lt, l .inv .1 .sum ∙ ap (λ (k : ℕ). s % 2 ^ k) k ∙ mod-eq-of-lt (c .before .before .pre))
 
 pub first-trap-spec : {M : Type 1} → statement M
 first-trap-spec =
