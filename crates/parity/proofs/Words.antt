@@ -9,7 +9,7 @@ use native.Mathlib.Omega.{arith}
 use lib.ListN.{length}
 use lib.Dec.{T, eqb, eqb→eq, lit<, lit≤}
 use lib.Pow.{shl-exact}
-use lib.Bits.{bitAnd, bitXor, xor-zero-r, and-mask}
+use lib.Bits.{bitXor, xor-zero-r}
 use Rattle.bits.specs.Order.{bitAt, bitsOf, run, number, digits}
 use Rattle.bits.proofs.Xor.{xor-swap}
 use Rattle.bits.proofs.Additive.{Additive, agree, shift-right, shift-left, shift-up, low-bits, after}
@@ -115,12 +115,11 @@ of-both r word h l =
     ∙ ap (λ (x : ℕ). fecFrom r (digits 64 x)) (xor-zero-r word)
 
 -- as the code writes it, which casts r first
-pub masked : (r word wide : ℕ) → r < 2 ^ 26 → word < 2 ^ 64 → wide ≡ r
-    → bitAnd (product (bitXor word (wide * 2 ^ 38 % 2 ^ 64))) 0x3ffffff ≡ fecFrom r (digits 64 word)
+pub left-over : (r word wide : ℕ) → r < 2 ^ 26 → word < 2 ^ 64 → wide ≡ r
+    → product (bitXor word (wide * 2 ^ 38 % 2 ^ 64)) % 2 ^ 26 ≡ fecFrom r (digits 64 word)
 unfolding leftOver
-masked r word wide h l e =
-    ap (λ (x : ℕ). bitAnd (product (bitXor word x)) 0x3ffffff) (ap (λ (x : ℕ). x * 2 ^ 38 % 2 ^ 64) e ∙ shl-exact 26 38 64 h (lit≤ tt))
-    ∙ and-mask (product (bitXor word (r * 2 ^ 38))) 26
+left-over r word wide h l e =
+    ap (λ (x : ℕ). product (bitXor word x) % 2 ^ 26) (ap (λ (x : ℕ). x * 2 ^ 38 % 2 ^ 64) e ∙ shl-exact 26 38 64 h (lit≤ tt))
     ∙ of-both r word h l
 
 -- ---- word by word

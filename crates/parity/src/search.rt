@@ -72,6 +72,7 @@ fn sum_of(weights: &[u32; 2074], place: usize, pattern: u32) -> u32
     sum
 }
 
+// By place, and at each place by pattern: left as soon as a pair agrees.
 pub(crate) fn search(weights: &[u32; 2074], remainder: u32) -> Burst
     requires { ⌜ now weights ≡ run (weight fec) 0 2074 ⌝ }
     requires { ⌜ remainder < 2 ^ 26 ⌝ }

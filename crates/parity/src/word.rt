@@ -22,7 +22,7 @@ fn next_word(r: u32, word: u64) -> u32
     let q2 = q1 ^ (q1 >> 10) ^ (q1 >> 18) ^ (q1 >> 34) ^ (q1 >> 44) ^ (q1 >> 52);
     let q4 = q2 ^ (q2 >> 20) ^ (q2 >> 36);
     let q8 = q4 ^ (q4 >> 40);
-    ((q8 ^ (q8 << 4) ^ (q8 << 9) ^ (q8 << 17) ^ (q8 << 21)) & 0x3ff_ffff) as u32
+    ((q8 ^ (q8 << 4) ^ (q8 << 9) ^ (q8 << 17) ^ (q8 << 21)) % 0x400_0000) as u32
 }
 
 // The first octets, a whole number of words.

@@ -48,9 +48,9 @@ fn hex(value: u32) -> u8 {
     55 + digit as u8
 }
 
-// The lowest digits of a value: seven, less those that are left out.
-fn write_hex(value: u32, left_out: usize)
-    requires { ⌜ left_out ≤ 7 ⌝ }
+// The lowest digits of a value: seven, less those that are skipped.
+fn write_hex(value: u32, skipped: usize)
+    requires { ⌜ skipped ≤ 7 ⌝ }
 {
     let text = [
         hex(value >> 24),
@@ -61,20 +61,20 @@ fn write_hex(value: u32, left_out: usize)
         hex(value >> 4),
         hex(value),
     ];
-    io::write_all(STDOUT_FILENO, &text[left_out..]);
+    io::write_all(STDOUT_FILENO, &text[skipped..]);
 }
 
 // A row: what the library computes, and what the standard prints where that is something else.
-fn write_row(label: &[u8], row: u32, value: u32, printed: u32, left_out: usize)
-    requires { ⌜ left_out ≤ 7 ⌝ }
+fn write_row(label: &[u8], row: u32, value: u32, printed: u32, skipped: usize)
+    requires { ⌜ skipped ≤ 7 ⌝ }
 {
     io::write_all(STDOUT_FILENO, label);
     write_hex(row, 6);
     io::write_all(STDOUT_FILENO, b" ");
-    write_hex(value, left_out);
+    write_hex(value, skipped);
     if value != printed {
         io::write_all(STDOUT_FILENO, b" (the standard prints ");
-        write_hex(printed, left_out);
+        write_hex(printed, skipped);
         io::write_all(STDOUT_FILENO, b", a misprint)");
     }
     io::write_all(STDOUT_FILENO, b"\n");
