@@ -48,11 +48,13 @@ fn last_word(octets: &[u8], at: usize) -> u64
 pub fn word_at(octets: &[u8], at: usize) -> u64
     ensures { λ r. ⌜ r ≡ number (bitAt (now (octets .entry))) (8 * at) 64 ⌝ }
 {
+    if 8 <= octets.len() {
+        if at <= octets.len() - 8 {
+            return whole_word(octets, at);
+        }
+    }
     if octets.len() <= at {
         return 0;
     }
-    if octets.len() - at < 8 {
-        return last_word(octets, at);
-    }
-    whole_word(octets, at)
+    last_word(octets, at)
 }

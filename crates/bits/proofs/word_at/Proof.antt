@@ -7,24 +7,26 @@ use Rattle.bits.proofs.Numbers.{past-end}
 use Rattle.bits.proofs.word_at.Statement.{statement}
 use Rattle.bits.proofs.word_at.Tie as tie
 
-returns : tie.Need-returns
-returns c = sym (past-end (c .before .before .args .octets .now) (c .before .before .args .at) 64 (c .if1 .taken))
-
 sub-if2 : tie.Need-sub-if2
 sub-if2 c = search needs
 
-last-word-requires : tie.Need-last-word-requires
-last-word-requires c κs = search needs
-
-returns-2 : tie.Need-returns-2
-returns-2 c = search needs
-
 whole-word-requires : tie.Need-whole-word-requires
 whole-word-requires c κs = search needs
+
+returns : tie.Need-returns
+returns c = search needs
+
+returns-2 : tie.Need-returns-2
+returns-2 c =
+    let a = c .before .before .before .args in
+    sym (past-end (a .octets .now) (a .at) 64 (c .if3 .taken))
+
+last-word-requires : tie.Need-last-word-requires
+last-word-requires c κs = search needs
 
 returns-3 : tie.Need-returns-3
 returns-3 c = search needs
 
 pub word-at-spec : {M : Type 1} → statement M
 word-at-spec =
-    tie.close (tie.spec returns sub-if2 last-word-requires returns-2 whole-word-requires returns-3)
+    tie.close (tie.spec sub-if2 whole-word-requires returns returns-2 last-word-requires returns-3)
