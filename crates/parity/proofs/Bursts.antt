@@ -117,9 +117,6 @@ module _ (C : Code) where
       ∙ weighed-pattern (flips p q) (C .positions - p) p q (flips-at p q)
       ∙ patternSum-fits (C .positions - p) b p q (h .inside) (h .short)
 
-  pub remainder-own : (b p q : ℕ) → IsBurst b (C .positions) p q → remainderOf C (flips p q) ≡ weighed C (flips p q) p b
-  remainder-own b p q h = remainder-pattern b p q h ∙ sym (weighed-pattern (flips p q) b p q (flips-at p q))
-
 -- ---- the pattern turned round
 
 -- the k low bits of q turned round: the lowest becomes the highest

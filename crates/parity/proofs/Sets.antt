@@ -9,11 +9,10 @@ use native.Mathlib.Decide.{decLe, decLt, ℕ-discrete}
 use native.Mathlib.Omega.{arith}
 use lib.Arith.{digits-lt}
 use lib.Pow.{pow-pos, pow-mono, shr-shr}
-use lib.Bits.{bitXor}
 use Rattle.bits.proofs.Xor.{odd-lt}
-use Rattle.parity.specs.Polynomial.{scale}
-use Rattle.parity.specs.Codeword.{Code, fec, weight, weighed, remainderOf}
+use Rattle.parity.specs.Codeword.{Code, fec, remainderOf}
 use Rattle.parity.specs.Bursts.{BurstSet, IsBurst, flips}
+use Rattle.parity.proofs.Codeword.{weighed-ext}
 use Rattle.parity.proofs.Bursts.{Proper, starts, flips-at, flips-before, no-burst-zero, one-burst}
 
 -- ---- from place and pattern to a set
@@ -165,14 +164,9 @@ unnamed b n f some bits inside close s e = go (first f bits s e)
 
 -- ---- the remainder of a set
 
-weighed-same : (C : Code) (f h : ℕ → ℕ) → ((c : ℕ) → f c ≡ h c) → (p n : ℕ) → weighed C f p n ≡ weighed C h p n
-unfolding weighed
-weighed-same C f h e p zero = refl
-weighed-same C f h e p (suc n) = ap₂ bitXor (ap (λ (x : ℕ). scale x (weight C p)) (e p)) (weighed-same C f h e (suc p) n)
-
 pub remainder-same : (C : Code) (f h : ℕ → ℕ) → ((c : ℕ) → f c ≡ h c) → remainderOf C f ≡ remainderOf C h
 unfolding remainderOf
-remainder-same C f h e = weighed-same C f h e 0 (C .positions)
+remainder-same C f h e = weighed-ext C f h 0 (C .positions) (λ j _. e (0 + j))
 
 pub no-set-zero : (C : Code) → Proper C → (b : ℕ) (f : ℕ → ℕ) → b ≤ C .width → BurstSet b (C .positions) f → remainderOf C f ≢ 0
 no-set-zero C proper b f narrow set e =
