@@ -1,0 +1,48 @@
+-- Sync words, written and read by a layout of 32 fields: clauses 7.3.3, 7.3.4 and 7.3.6; document 01, "From octets to lane bits".
+-- A sync word is a number of 32 bits: position 0 is the highest. Assumes nothing.
+use mathlib.Core.Bool.{Bool, true, false}
+use mathlib.Core.List.{List, [], _∷_}
+use Prim.Native.Nat.{ℕ, zero, suc, _+_, _-_, _*_, _/_, _%_, _^_}
+use lib.Dec.{eqb, leb}
+use lib.ListN.{getD}
+use Rattle.bits.specs.Choice.{pick}
+use Rattle.bits.specs.Order.{number}
+use Rattle.parity.specs.Codeword.{Code}
+use Rattle.frame.specs.Modes.{Field, parity, command, mark, fixed, Row}
+
+-- ---- written
+
+-- what a field holds of a parity p, a command c and an end mark e
+unfoldable pub held : ℕ → ℕ → ℕ → Field → ℕ
+held p c e (parity k) = p / 2 ^ k % 2
+held p c e (command k) = c / 2 ^ k % 2
+held p c e mark = e % 2
+held p c e (fixed b) = b % 2
+
+unfoldable pub syncWord : Row → ℕ → ℕ → ℕ → ℕ
+syncWord R p c e = number (λ t. held p c e (getD (R .layout) t (fixed 0))) 0 32
+
+-- ---- read
+
+-- a number for each field, and none for two
+unfoldable pub key : Field → ℕ
+key (parity k) = 4 * k
+key (command k) = 4 * k + 1
+key mark = 2
+key (fixed b) = 4 * b + 3
+
+-- the position where a field stands first; past the end where it does not stand
+unfoldable pub position : List Field → Field → ℕ
+position [] x = 0
+position (y ∷ l) x = pick (eqb (key x) (key y)) 0 (suc (position l x))
+
+-- the parity and the command that 32 sync bits carry
+unfoldable pub readParity : Row → (ℕ → ℕ) → ℕ
+readParity R bits = number (λ j. bits (position (R .layout) (parity (R .code .width - 1 - j)))) 0 (R .code .width)
+
+unfoldable pub readCommand : Row → (ℕ → ℕ) → ℕ
+readCommand R bits = number (λ j. bits (position (R .layout) (command (R .commandWidth - 1 - j)))) 0 (R .commandWidth)
+
+-- the same with a mark above it, where any of its headers was invalid
+unfoldable pub markedCommand : Row → (ℕ → ℕ) → (ℕ → ℕ) → ℕ
+markedCommand R bits bad = readCommand R bits + pick (leb 1 (readCommand R bad)) (2 ^ R .commandWidth) 0
