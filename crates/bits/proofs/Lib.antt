@@ -4,3 +4,4 @@ pub mod Additive
 pub mod Numbers
 pub mod Runs
 pub mod Words
+pub mod Tests

@@ -6,13 +6,19 @@ use native.Mathlib.Nat.{add-zero, add-suc, add-assoc, mul-one, pow-suc, pow-zero
 use native.Mathlib.Numerals.{add-one, one-add}
 use native.Mathlib.Omega.{arith}
 use lib.ListN.{length, getD, List·getD-eq-default}
-use lib.Arith.{digits-lt}
-use lib.Pow.{pow-pos, shr-shr, mod-pow-add}
-use Rattle.bits.specs.Order.{bitAt, number}
+use lib.Arith.{digits-lt, digits-mod}
+use lib.Pow.{pow-pos, shr-shr, high, field, mod-pow-add, mod-mod-pow}
+use lib.Bits.{bitXor}
+use Rattle.bits.specs.Order.{bitAt, number, digit}
+use Rattle.bits.proofs.Xor.{xor-digit}
 
 pub bitAt-lt : (octets : List ℕ) (k : ℕ) → bitAt octets k < 2
 unfolding bitAt
 bitAt-lt octets k = mod-lt (getD octets (k / 8) 0 / 2 ^ (7 - k % 8)) (zero-lt-suc 1)
+
+pub digit-lt : (n v j : ℕ) → digit n v j < 2
+unfolding digit
+digit-lt n v j = mod-lt (v / 2 ^ (n - 1 - j)) (zero-lt-suc 1)
 
 module _ (f : ℕ → ℕ) where
   -- a run of a + b bits is a run of a and then one of b
@@ -50,6 +56,33 @@ number-digits v n zero m e = sym (mod-one _)
 number-digits v n (suc w) m e =
     ap₂ (λ (x y : ℕ). x * 2 + v / 2 ^ y % 2) (number-digits v n w (suc m) (omega arith) ∙ ap (λ (x : ℕ). x % 2 ^ w) (sym (shr-shr v m 1 ∙ ap (λ (x : ℕ). v / 2 ^ x) (add-one m)))) (omega arith)
     ∙ sym (ap (λ (x : ℕ). v / 2 ^ m % 2 ^ x) (sym (add-one w)) ∙ mod-pow-add (v / 2 ^ m) w 1)
+
+-- the low bits of a number have its low digits
+pub low-digit : (v w k : ℕ) → k < w → v % 2 ^ w / 2 ^ k % 2 ≡ v / 2 ^ k % 2
+low-digit v w k h =
+    ap (λ (x : ℕ). v % 2 ^ x / 2 ^ k % 2) {x = w} {y = w - k + k} (omega arith)
+    ∙ ap (λ (x : ℕ). x % 2) (field v (w - k) k)
+    ∙ ap (λ (x : ℕ). v / 2 ^ k % 2 ^ x % 2) {x = w - k} {y = w - k - 1 + 1} (omega arith)
+    ∙ mod-mod-pow (v / 2 ^ k) (w - k - 1) 1
+
+-- each digit of the number that a run writes is the bit of the run
+pub digit-number : (f : ℕ → ℕ) → ((k : ℕ) → f k < 2) → (k n j : ℕ) → j < n → digit n (number f k n) j ≡ f (k + j)
+unfolding digit number
+digit-number f d k n j h =
+    let m = n - 1 - j in
+    ap (λ (x : ℕ). number f k x / 2 ^ m % 2) {x = n} {y = suc j + m} (omega arith)
+    ∙ ap (λ (x : ℕ). x / 2 ^ m % 2) (number-split f k (suc j) m)
+    ∙ ap (λ (x : ℕ). x % 2) (high (number f k (suc j)) m (number-lt f d (k + suc j) m))
+    ∙ digits-mod (number f k j) (d (k + j))
+
+-- exclusive or goes through
+pub number-xor : (f g : ℕ → ℕ) → ((k : ℕ) → f k < 2) → ((k : ℕ) → g k < 2) → (k n : ℕ)
+    → number (λ j. bitXor (f j) (g j)) k n ≡ bitXor (number f k n) (number g k n)
+unfolding number
+number-xor f g d e k zero = refl
+number-xor f g d e k (suc n) =
+    ap (λ (x : ℕ). x * 2 + bitXor (f (k + n)) (g (k + n))) (number-xor f g d e k n)
+    ∙ sym (xor-digit (number f k n) (number g k n) (f (k + n)) (g (k + n)) (d (k + n)) (e (k + n)))
 
 -- ---- octets
 

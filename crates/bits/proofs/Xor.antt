@@ -4,7 +4,7 @@ use Prim.Native.Nat.{ℕ, zero, suc, _+_, _*_, _/_, _%_, _<_}
 use native.Mathlib.Nat.{mod-lt, not-suc-le-zero, le-of-suc-le-suc, zero-lt-suc, mul-div-cancel, mul-mod-left, add-zero, zero-mul}
 use native.Mathlib.Omega.{arith}
 use lib.Arith.{bin-ind, digits-mod}
-use lib.Bits.{bitXor, differ, xor-step, xor-shr, xor-comm, xor-self, xor-zero-r}
+use lib.Bits.{bitXor, differ, xor-step, xor-shr, xor-block, xor-comm, xor-self, xor-zero-r}
 
 -- what holds of 0 and of 1 holds of every bit
 pub bit-cases {ℓ} : (P : ℕ → Type ℓ) → P 0 → P 1 → (b : ℕ) → b < 2 → P b
@@ -66,6 +66,10 @@ xor-double a b =
     ∙ ap₂ (λ (x y : ℕ). bitXor x y * 2 + differ (a * 2 % 2) (b * 2 % 2)) (mul-div-cancel a (zero-lt-suc 1)) (mul-div-cancel b (zero-lt-suc 1))
     ∙ ap₂ (λ (x y : ℕ). bitXor a b * 2 + differ x y) (mul-mod-left a 2) (mul-mod-left b 2)
     ∙ add-zero (bitXor a b * 2))
+
+-- one digit more
+pub xor-digit : (a b x y : ℕ) → x < 2 → y < 2 → bitXor (a * 2 + x) (b * 2 + y) ≡ bitXor a b * 2 + bitXor x y
+xor-digit a b x y hx hy = xor-block 1 a b x y hx hy
 
 -- of the multiples of g by two bits
 pub xor-scale : (x y g : ℕ) → x < 2 → y < 2 → differ x y * g ≡ bitXor (x * g) (y * g)

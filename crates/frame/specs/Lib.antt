@@ -5,3 +5,4 @@ pub mod Lane
 pub mod SyncWord
 pub mod Scrambling
 pub mod Parts
+pub mod Dozen

@@ -1,0 +1,28 @@
+-- Tests that the checker computes: two at once, and one at each number below a bound. Assumes nothing.
+use mathlib.Core.Path.{_≡_, sym, subst}
+use mathlib.Core.Logic.{_⊎_, inl, inr}
+use mathlib.Core.Bool.{Bool, true, false, _&&_}
+use Prim.Native.Nat.{ℕ, zero, suc, _≤_, _<_}
+use native.Mathlib.Nat.{not-suc-le-zero, le-suc-iff, suc-inj}
+use lib.Dec.{T}
+
+pub left : (a b : Bool) → T (a && b) → T a
+left true b t = tt
+left false b t = t
+
+pub right : (a b : Bool) → T (a && b) → T b
+right true b t = t
+right false b t = absurd t
+
+unfoldable pub every : (ℕ → Bool) → ℕ → Bool
+every f zero = true
+every f (suc n) = f n && every f n
+
+pub every-at : (f : ℕ → Bool) (n : ℕ) → T (every f n) → (i : ℕ) → i < n → T (f i)
+unfolding every
+every-at f zero t i h = absurd (not-suc-le-zero h)
+every-at f (suc n) t i h = go (le-suc-iff .0 h) (every-at f n (right (f n) (every f n) t) i)
+  where
+    go : (suc i ≤ n) ⊎ (suc i ≡ suc n) → (i < n → T (f i)) → T (f i)
+    go (inl l) ih = ih l
+    go (inr e) ih = subst (λ (x : ℕ). T (f x)) (sym (suc-inj e)) (left (f n) (every f n) t)

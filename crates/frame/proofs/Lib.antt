@@ -1,0 +1,4 @@
+-- Laws of headers, sync words, scrambling, blocks and multiblocks that no one function owns.
+pub mod SyncWord
+pub mod Fields
+pub mod Dozen
