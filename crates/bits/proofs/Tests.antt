@@ -6,6 +6,10 @@ use Prim.Native.Nat.{ℕ, zero, suc, _≤_, _<_}
 use native.Mathlib.Nat.{not-suc-le-zero, le-suc-iff, suc-inj}
 use lib.Dec.{T}
 
+pub both : (a b : Bool) → T a → T b → T (a && b)
+both true b s t = t
+both false b s t = absurd s
+
 pub left : (a b : Bool) → T (a && b) → T a
 left true b t = tt
 left false b t = t

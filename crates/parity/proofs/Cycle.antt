@@ -1,42 +1,13 @@
--- Tests that the checker computes along the powers of x, and what they show: a test at every number below a bound, a test at each of
--- the first powers of x, how a power that gives back r does so again and again, and how to come from r to a smaller number. Assumes nothing.
+-- Tests that the checker computes along the powers of x, and what they show: a test at each of the first
+-- powers of x, how a power that gives back r does so again and again, and how to come from r to a smaller number. Assumes nothing.
 use mathlib.Core.Path.{_≡_, sym, ap, _∙_, subst}
-use mathlib.Core.Logic.{_⊎_, inl, inr}
 use mathlib.Core.Bool.{Bool, true, false, _&&_}
-use Prim.Native.Nat.{ℕ, zero, suc, _+_, _*_, _≤_, _<_}
-use native.Mathlib.Nat.{not-suc-le-zero, le-of-suc-le-suc, add-zero, add-suc, suc-add, le-suc-iff, zero-mul, suc-mul, suc-inj}
+use Prim.Native.Nat.{ℕ, zero, suc, _+_, _*_, _<_}
+use native.Mathlib.Nat.{not-suc-le-zero, le-of-suc-le-suc, add-zero, add-suc, suc-add, zero-mul, suc-mul}
 use lib.Dec.{T, leb}
+use Rattle.bits.proofs.Tests.{left, right}
 use Rattle.parity.specs.Polynomial.{timesX, timesPower}
 use Rattle.parity.proofs.Polynomial.{timesPower-add, timesPower-in}
-
--- ---- two tests
-
-pub both : (a b : Bool) → T a → T b → T (a && b)
-both true b s t = t
-both false b s t = absurd s
-
-pub left : (a b : Bool) → T (a && b) → T a
-left true b t = tt
-left false b t = t
-
-pub right : (a b : Bool) → T (a && b) → T b
-right true b t = t
-right false b t = absurd t
-
--- ---- a test at each number below n
-
-unfoldable pub every : (ℕ → Bool) → ℕ → Bool
-every f zero = true
-every f (suc n) = f n && every f n
-
-pub every-at : (f : ℕ → Bool) (n : ℕ) → T (every f n) → (i : ℕ) → i < n → T (f i)
-unfolding every
-every-at f zero t i h = absurd (not-suc-le-zero h)
-every-at f (suc n) t i h = go (le-suc-iff .0 h) (every-at f n (right (f n) (every f n) t) i)
-  where
-    go : (suc i ≤ n) ⊎ (suc i ≡ suc n) → (i < n → T (f i)) → T (f i)
-    go (inl l) ih = ih l
-    go (inr e) ih = subst (λ (x : ℕ). T (f x)) (sym (suc-inj e)) (left (f n) (every f n) t)
 
 module _ (w g : ℕ) where
   -- ---- a test at d and r, at d + 1 and x r, and so on, n of them

@@ -12,7 +12,8 @@ use lib.Pow.{pow-mono}
 use Rattle.parity.specs.Polynomial.{scale, timesX, timesPower}
 use Rattle.parity.proofs.Polynomial.{timesPower-add, timesPower-in}
 use Rattle.parity.proofs.Factor.{reduced, reduced-narrow, reduced-timesPower}
-use Rattle.parity.proofs.Cycle.{both, left, right, every, every-at, along, along-at, round, below, below-has}
+use Rattle.bits.proofs.Tests.{both, left, right, every, every-at}
+use Rattle.parity.proofs.Cycle.{along, along-at, round, below, below-has}
 
 -- ---- modulo x^17 + 1: a turn
 

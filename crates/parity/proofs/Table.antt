@@ -9,7 +9,7 @@ use lib.ListN.{length}
 use Rattle.bits.specs.Order.{run}
 use Rattle.parity.specs.Polynomial.{timesX, timesPower, power}
 use Rattle.parity.specs.Codeword.{Code, weight}
-use Rattle.parity.proofs.Cycle.{left, right}
+use Rattle.bits.proofs.Tests.{left, right}
 
 module _ (C : Code) where
   abbrev pub chain : ℕ → List ℕ → Bool

@@ -2,23 +2,22 @@
 -- single bit, which the checker computes. Assumes nothing.
 use mathlib.Core.Path.{_≡_, refl, sym, ap, ap₂, _∙_}
 use mathlib.Core.List.{List, [], _∷_}
-use mathlib.Core.Bool.{Bool}
 use Prim.Native.Nat.{ℕ, _+_, _-_, _*_, _/_, _%_, _^_, _≤_, _<_}
 use native.Mathlib.Nat.{zero-add}
 use native.Mathlib.Omega.{arith}
 use lib.ListN.{length}
-use lib.Dec.{T, eqb, eqb→eq, lit<, lit≤}
+use lib.Dec.{T, eqb, lit<, lit≤}
 use lib.Pow.{shl-exact}
 use lib.Bits.{bitXor, xor-zero-r}
 use Rattle.bits.specs.Order.{bitAt, bitsOf, run, number, digits}
 use Rattle.bits.proofs.Xor.{xor-swap}
-use Rattle.bits.proofs.Additive.{Additive, agree, shift-right, shift-left, shift-up, low-bits, after}
+use Rattle.bits.proofs.Additive.{Additive, agree-test, shift-right, shift-left, shift-up, low-bits, after}
 use Rattle.bits.proofs.Runs.{run-append, digits-number}
 use Rattle.parity.specs.Polynomial.{scale, timesX}
 use Rattle.parity.specs.Remainder.{next, remainderFrom, remainder}
 use Rattle.parity.specs.Codeword.{fec, parityOf}
 use Rattle.parity.proofs.Remainder.{from-digits, from-append, from-lt}
-use Rattle.parity.proofs.Cycle.{every, every-at}
+use Rattle.bits.proofs.Tests.{every}
 
 abbrev fecFrom : ℕ → List ℕ → ℕ
 fecFrom = remainderFrom 26 0x0220211
@@ -81,31 +80,22 @@ leftOver-additive =
     after (λ a. a % 2 ^ 26) product (low-bits 26) (after (ups _) quotient (ups-additive _) (rounds-additive _))
 
 -- at each bit of a word
-wordBit : ℕ → Bool
-wordBit i = eqb (leftOver (2 ^ i)) (fecFrom 0 (digits 64 (2 ^ i)))
-
-every-wordBit : T (every wordBit 64)
-unfolding every wordBit leftOver product quotient rounds ups downs shifts remainderFrom digits next scale timesX
-every-wordBit = tt
+word-test : T (every (λ i. eqb (leftOver (2 ^ i)) (fecFrom 0 (digits 64 (2 ^ i)))) 64)
+unfolding every leftOver product quotient rounds ups downs shifts remainderFrom digits next scale timesX
+word-test = tt
 
 of-word : (word : ℕ) → word < 2 ^ 64 → leftOver word ≡ fecFrom 0 (digits 64 word)
-of-word =
-    agree leftOver (λ x. fecFrom 0 (digits 64 x)) leftOver-additive (from-digits 26 0x0220211 64 0 0) 64
-    (λ i h. unfold wordBit in eqb→eq (leftOver (2 ^ i)) (fecFrom 0 (digits 64 (2 ^ i))) (every-at wordBit 64 every-wordBit i h))
+of-word = agree-test leftOver (λ x. fecFrom 0 (digits 64 x)) leftOver-additive (from-digits 26 0x0220211 64 0 0) 64 word-test
 
 -- at each bit of a remainder, which the code adds to the word's top
-startBit : ℕ → Bool
-startBit i = eqb (leftOver (2 ^ i * 2 ^ 38)) (fecFrom (2 ^ i) (digits 64 0))
-
-every-startBit : T (every startBit 26)
-unfolding every startBit leftOver product quotient rounds ups downs shifts remainderFrom digits next scale timesX
-every-startBit = tt
+start-test : T (every (λ i. eqb (leftOver (2 ^ i * 2 ^ 38)) (fecFrom (2 ^ i) (digits 64 0))) 26)
+unfolding every leftOver product quotient rounds ups downs shifts remainderFrom digits next scale timesX
+start-test = tt
 
 of-start : (r : ℕ) → r < 2 ^ 26 → leftOver (r * 2 ^ 38) ≡ fecFrom r (digits 64 0)
 of-start =
-    agree (λ r. leftOver (r * 2 ^ 38)) (λ r. fecFrom r (digits 64 0)) (after leftOver (λ r. r * 2 ^ 38) leftOver-additive (shift-up 38))
-    (λ r s. from-digits 26 0x0220211 64 r s 0 0) 26
-    (λ i h. unfold startBit in eqb→eq (leftOver (2 ^ i * 2 ^ 38)) (fecFrom (2 ^ i) (digits 64 0)) (every-at startBit 26 every-startBit i h))
+    agree-test (λ r. leftOver (r * 2 ^ 38)) (λ r. fecFrom r (digits 64 0)) (after leftOver (λ r. r * 2 ^ 38) leftOver-additive (shift-up 38))
+    (λ r s. from-digits 26 0x0220211 64 r s 0 0) 26 start-test
 
 of-both : (r word : ℕ) → r < 2 ^ 26 → word < 2 ^ 64 → leftOver (bitXor word (r * 2 ^ 38)) ≡ fecFrom r (digits 64 word)
 of-both r word h l =
