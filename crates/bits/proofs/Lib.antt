@@ -1,7 +1,9 @@
 -- Laws of bits that no one function owns.
+pub mod Choice
 pub mod Xor
 pub mod Additive
 pub mod Numbers
 pub mod Runs
 pub mod Words
 pub mod Tests
+pub mod Laid

@@ -6,8 +6,8 @@ use native.Mathlib.Nat.{add-zero, add-suc, add-assoc, mul-one, pow-suc, pow-zero
 use native.Mathlib.Numerals.{add-one, one-add}
 use native.Mathlib.Omega.{arith}
 use lib.ListN.{length, getD, List·getD-eq-default}
-use lib.Arith.{digits-lt, digits-mod}
-use lib.Pow.{pow-pos, shr-shr, high, field, mod-pow-add, mod-mod-pow}
+use lib.Arith.{digits-lt}
+use lib.Pow.{pow-pos, shr-shr, high, low, field, mod-pow-add, mod-mod-pow}
 use lib.Bits.{bitXor}
 use Rattle.bits.specs.Order.{bitAt, number, digit}
 use Rattle.bits.proofs.Xor.{xor-digit}
@@ -43,6 +43,19 @@ module _ (f : ℕ → ℕ) where
     number-lt k zero = omega (arith, pow-pos 0)
     number-lt k (suc n) = subst (λ (x : ℕ). number f k n * 2 + f (k + n) < x) (sym (pow-suc 2 n)) (digits-lt (number-lt k n) (d (k + n)))
 
+    -- the low bits of the number are the end of the run
+    pub number-low : (k a b : ℕ) → number f k (a + b) % 2 ^ b ≡ number f (k + a) b
+    number-low k a b = ap (λ (x : ℕ). x % 2 ^ b) (number-split k a b) ∙ low (number f k a) b (number-lt (k + a) b)
+
+    -- digit j of the number that a run writes is bit j of the run
+    pub digit-number : (k n j : ℕ) → j < n → digit n (number f k n) j ≡ f (k + j)
+    unfolding digit number
+    digit-number k n j h =
+        ap (λ (x : ℕ). number f k x / 2 ^ (n - 1 - j) % 2) {x = n} {y = suc j + (n - 1 - j)} (omega arith)
+        ∙ ap (λ (x : ℕ). x / 2 ^ (n - 1 - j) % 2) (number-split k (suc j) (n - 1 - j))
+        ∙ ap (λ (x : ℕ). x % 2) (high (number f k (suc j)) (n - 1 - j) (number-lt (k + suc j) (n - 1 - j)))
+        ∙ low (number f k j) 1 (d (k + j))
+
 -- equal bits, equal numbers
 pub number-ext : (f g : ℕ → ℕ) (k l n : ℕ) → ((j : ℕ) → j < n → f (k + j) ≡ g (l + j)) → number f k n ≡ number g l n
 unfolding number
@@ -65,16 +78,6 @@ low-digit v w k h =
     ∙ ap (λ (x : ℕ). v / 2 ^ k % 2 ^ x % 2) {x = w - k} {y = w - k - 1 + 1} (omega arith)
     ∙ mod-mod-pow (v / 2 ^ k) (w - k - 1) 1
 
--- each digit of the number that a run writes is the bit of the run
-pub digit-number : (f : ℕ → ℕ) → ((k : ℕ) → f k < 2) → (k n j : ℕ) → j < n → digit n (number f k n) j ≡ f (k + j)
-unfolding digit number
-digit-number f d k n j h =
-    let m = n - 1 - j in
-    ap (λ (x : ℕ). number f k x / 2 ^ m % 2) {x = n} {y = suc j + m} (omega arith)
-    ∙ ap (λ (x : ℕ). x / 2 ^ m % 2) (number-split f k (suc j) m)
-    ∙ ap (λ (x : ℕ). x % 2) (high (number f k (suc j)) m (number-lt f d (k + suc j) m))
-    ∙ digits-mod (number f k j) (d (k + j))
-
 -- exclusive or goes through
 pub number-xor : (f g : ℕ → ℕ) → ((k : ℕ) → f k < 2) → ((k : ℕ) → g k < 2) → (k n : ℕ)
     → number (λ j. bitXor (f j) (g j)) k n ≡ bitXor (number f k n) (number g k n)
@@ -83,6 +86,13 @@ number-xor f g d e k zero = refl
 number-xor f g d e k (suc n) =
     ap (λ (x : ℕ). x * 2 + bitXor (f (k + n)) (g (k + n))) (number-xor f g d e k n)
     ∙ sym (xor-digit (number f k n) (number g k n) (f (k + n)) (g (k + n)) (d (k + n)) (e (k + n)))
+
+-- w of the digits from digit k on are a field of the number
+pub number-digit : (n v k w : ℕ) → k + w ≤ n → number (digit n v) k w ≡ v / 2 ^ (n - k - w) % 2 ^ w
+unfolding digit
+number-digit n v k w h =
+    number-ext (λ j. v / 2 ^ (n - 1 - j) % 2) (λ j. v / 2 ^ (n - k - 1 - j) % 2) k 0 w (λ j q. ap (λ (x : ℕ). v / 2 ^ x % 2) {x = n - 1 - (k + j)} {y = n - k - 1 - (0 + j)} (omega arith))
+    ∙ number-digits v (n - k) w (n - k - w) (omega arith)
 
 -- ---- octets
 

@@ -2,7 +2,9 @@
 -- A bit is a number, 0 or 1; a stream of bits is a function from places to bits. Assumes nothing.
 use mathlib.Core.List.{List, [], _∷_, _++_}
 use Prim.Native.Nat.{ℕ, zero, suc, _+_, _-_, _*_, _/_, _%_, _^_}
-use lib.ListN.{getD, length, drop}
+use lib.Dec.{leb}
+use lib.ListN.{getD, length, take, drop}
+use Rattle.bits.specs.Choice.{pick}
 
 -- bit k of some octets; 0 past their end
 unfoldable pub bitAt : List ℕ → ℕ → ℕ
@@ -37,3 +39,7 @@ octetsOf f n = run (λ j. number f (8 * j) 8) 0 n
 -- a list laid over the start of another, which keeps the rest
 unfoldable pub laid : List ℕ → List ℕ → List ℕ
 laid new old = new ++ drop (length new) old
+
+-- a list laid over another from a place on; where it does not fit, the other stays as it is
+unfoldable pub laidAt : List ℕ → ℕ → List ℕ → List ℕ
+laidAt new at old = pick (leb (at + length new) (length old)) (take at old ++ new ++ drop (at + length new) old) old

@@ -1,8 +1,8 @@
-// Octets read as bits, most significant bit first: document 01, "From octets to lane bits".
+// Octets read and written as bits, most significant bit first: document 01, "From octets to lane bits".
 ghost use mathlib.Core.Path.{_≡_};
 ghost use Prim.Native.Nat.{_+_, _*_, _≤_, _<_};
 ghost use lib.ListN.{length, getD};
-ghost use Rattle.bits.specs.Order.{bitAt, number};
+ghost use Rattle.bits.specs.Order.{bitAt, number, digit, octetsOf, laidAt};
 
 fn wide(octet: u8) -> u64
     ensures { λ r. ⌜ r ≡ octet ⌝ }
@@ -57,4 +57,32 @@ pub fn word_at(octets: &[u8], at: usize) -> u64
         return 0;
     }
     last_word(octets, at)
+}
+
+// Eight octets that are there, as one store.
+fn put_whole(out: &mut [u8], at: usize, word: u64)
+    requires { ⌜ at + 8 ≤ length (now out) ⌝ }
+    ensures { λ _. ⌜ now (out .exit) ≡ laidAt (octetsOf (digit 64 word) 8) at (now (out .entry)) ⌝ }
+{
+    out[at] = ((word >> 56) % 256) as u8;
+    out[at + 1] = ((word >> 48) % 256) as u8;
+    out[at + 2] = ((word >> 40) % 256) as u8;
+    out[at + 3] = ((word >> 32) % 256) as u8;
+    out[at + 4] = ((word >> 24) % 256) as u8;
+    out[at + 5] = ((word >> 16) % 256) as u8;
+    out[at + 6] = ((word >> 8) % 256) as u8;
+    out[at + 7] = (word % 256) as u8;
+}
+
+// The 64 bits of a word as eight octets, from octet `at` on; nothing where they do not fit.
+pub fn put_word(out: &mut [u8], at: usize, word: u64)
+    ensures { λ _. ⌜ now (out .exit) ≡ laidAt (octetsOf (digit 64 word) 8) at (now (out .entry)) ⌝ }
+{
+    if out.len() < 8 {
+        return;
+    }
+    if out.len() - 8 < at {
+        return;
+    }
+    put_whole(out, at, word);
 }

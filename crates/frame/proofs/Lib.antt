@@ -2,3 +2,6 @@
 pub mod SyncWord
 pub mod Fields
 pub mod Dozen
+pub mod Scrambling
+pub mod Blocks
+pub mod Parts

@@ -1,0 +1,26 @@
+-- Laws of refusals over parts of buffers: document 01, "Numbers of refusal". Assumes nothing.
+use mathlib.Core.Path.{_≡_, _∙_}
+use mathlib.Core.Bool.{not}
+use mathlib.Core.List.{List}
+use Prim.Native.Nat.{ℕ, _≤_, _<_}
+use native.Mathlib.Omega.{arith}
+use lib.Dec.{T, ltb, lt→ltb, ltb→lt, not-T}
+use lib.ListN.{length}
+use Rattle.bits.proofs.Choice.{pick-true, pick-false}
+use Rattle.frame.specs.Parts.{refusalOf}
+
+enough : (octets : List ℕ) (n : ℕ) → n ≤ length octets → T (not (ltb (length octets) n))
+enough octets n h = not-T (ltb (length octets) n) (λ t. let q = ltb→lt (length octets) n t in omega arith)
+
+module _ (n : ℕ) (given : List ℕ) (m : ℕ) (lent : List ℕ) where
+  pub few-given : length given < n → refusalOf n given m lent ≡ 4
+  unfolding refusalOf
+  few-given h = pick-true (ltb (length given) n) _ _ (lt→ltb (length given) n h)
+
+  pub few-lent : n ≤ length given → length lent < m → refusalOf n given m lent ≡ 7
+  unfolding refusalOf
+  few-lent g h = pick-false (ltb (length given) n) _ _ (enough given n g) ∙ pick-true (ltb (length lent) m) _ _ (lt→ltb (length lent) m h)
+
+  pub not-refused : n ≤ length given → m ≤ length lent → refusalOf n given m lent ≡ 0
+  unfolding refusalOf
+  not-refused g h = pick-false (ltb (length given) n) _ _ (enough given n g) ∙ pick-false (ltb (length lent) m) _ _ (enough lent m h)
