@@ -1,4 +1,5 @@
 -- The modes, one row each: document 01, "From octets to lane bits"; clauses 7.1, 7.3.4 and 7.3.6. Assumes nothing.
+use mathlib.Core.Bool.{Bool, true, false}
 use mathlib.Core.List.{List, [], _∷_, _++_}
 use Prim.Native.Nat.{ℕ, zero, suc, _+_, _*_}
 use lib.Dec.{eqb}
@@ -15,6 +16,7 @@ pub data Field : Type 0 where
 
 pub record Row : Type 0 where
   pub code : Code
+  pub repairs : Bool  -- whether a burst is flipped back, or only noticed
   pub commandWidth : ℕ
   pub gap : ℕ  -- bits between the data octets of a block
   pub layout : List Field  -- the sync word, by block
@@ -40,10 +42,10 @@ abbrev pub fecLayout : List Field
 fecLayout = down parity 4 22 ++ mark ∷ down parity 0 4 ++ ending
 
 abbrev pub crc12Row : Row
-crc12Row = record { code = crc12; commandWidth = 7; gap = 0; layout = crc12Layout; most = 240 }
+crc12Row = record { code = crc12; repairs = false; commandWidth = 7; gap = 0; layout = crc12Layout; most = 240 }
 
 abbrev pub fecRow : Row
-fecRow = record { code = fec; commandWidth = 0; gap = 0; layout = fecLayout; most = 240 }
+fecRow = record { code = fec; repairs = true; commandWidth = 0; gap = 0; layout = fecLayout; most = 240 }
 
 -- mode 1 is FEC and mode 0 CRC-12. Any other number has the row of mode 0 here; every entry refuses it before a row is read.
 abbrev pub row : ℕ → Row

@@ -1,0 +1,70 @@
+-- A multiblock waits until the next one has arrived with its parity, and is then released: document 01, "What the receiver releases".
+-- A lane is a stream of bits; multiblock m of it is the next to be received. Assumes nothing.
+use mathlib.Core.Bool.{Bool, true, false}
+use mathlib.Core.List.{List, [], _∷_, _++_}
+use Prim.Native.Nat.{ℕ, zero, suc, _*_}
+use lib.ListN.{replicate}
+use Rattle.bits.specs.Choice.{pick}
+use Rattle.bits.specs.Order.{bitAt, number}
+use Rattle.frame.specs.Modes.{Row}
+use Rattle.frame.specs.Lane.{dataOctets, syncBit, spoiltBit}
+use Rattle.frame.specs.SyncWord.{readParity, markedCommand}
+use Rattle.frame.specs.Scrambling.{descrambled}
+use Rattle.receiver.specs.declared.Verdict.{Verdict}
+use Rattle.receiver.specs.declared.Receiver.{Receiver}
+use Rattle.receiver.specs.Judge.{judged, mended, marked, trustedAfter}
+
+-- nothing waiting, history 0 and no trust
+abbrev pub fresh : Receiver
+fresh = record { waiting = false; octets = replicate 256 0; history = 0; trusted = false; command = 0 }
+
+pub record Release : Type 0 where
+  pub octets : List ℕ
+  pub status : ℕ
+  pub command : ℕ
+  pub place : ℕ
+  pub pattern : ℕ
+
+-- a state, and what was released on the way to it
+pub record Step : Type 0 where
+  pub state : Receiver
+  pub out : List Release
+
+module _ (R : Row) (lane : ℕ → ℕ) where
+  -- what the sync word of multiblock m tells of the multiblock that waits
+  unfoldable pub verdictAt : ℕ → Receiver → Verdict
+  verdictAt m s = judged R (s .octets) (readParity R (syncBit (R .gap) lane m))
+
+  unfoldable pub mendedAt : ℕ → Receiver → List ℕ
+  mendedAt m s = mended (verdictAt m s) (s .octets)
+
+  unfoldable pub releaseAt : ℕ → Receiver → Release
+  releaseAt m s = record {
+    octets = descrambled (mendedAt m s) (s .history) 256;
+    status = marked (verdictAt m s) (s .trusted);
+    command = s .command;
+    place = verdictAt m s .place;
+    pattern = verdictAt m s .pattern;
+  }
+
+  -- multiblock m waits from now on, after a history that is trusted or not
+  unfoldable pub waitingAt : ℕ → ℕ → Bool → Receiver
+  waitingAt m history trusted = record {
+    waiting = true;
+    octets = dataOctets (R .gap) lane m;
+    history = history;
+    trusted = trusted;
+    command = markedCommand R (syncBit (R .gap) lane m) (spoiltBit (R .gap) lane m);
+  }
+
+  -- multiblock m is received: the one that waits, if there is one, is released; the next history is its last 58 bits, mended
+  unfoldable pub step : ℕ → Receiver → Step
+  step m s =
+      pick (s .waiting)
+      (record { state = waitingAt m (number (bitAt (mendedAt m s)) 1990 58) (trustedAfter (verdictAt m s)); out = releaseAt m s ∷ [] })
+      (record { state = waitingAt m 0 false; out = [] })
+
+  -- the first n multiblocks are received
+  unfoldable pub run : Receiver → ℕ → Step
+  run s zero = record { state = s; out = [] }
+  run s (suc n) = record { state = step n (run s n .state) .state; out = run s n .out ++ step n (run s n .state) .out }

@@ -1,0 +1,44 @@
+-- What a sender sends: document 01, "From octets to lane bits"; clauses 7.1.4, 7.3.3, 7.4.1 and 7.5.1.
+-- A run goes over commands, one for each multiblock, with 256 user octets each. Assumes nothing.
+use mathlib.Core.Bool.{Bool, true, false}
+use mathlib.Core.List.{List, [], _∷_, _++_}
+use Prim.Native.Nat.{ℕ, _+_}
+use lib.Dec.{eqb}
+use lib.ListN.{take, drop}
+use Rattle.bits.specs.Choice.{pick, bitOf}
+use Rattle.bits.specs.Order.{bitAt}
+use Rattle.parity.specs.Codeword.{parityOf}
+use Rattle.frame.specs.Modes.{Row}
+use Rattle.frame.specs.Lane.{multiblock}
+use Rattle.frame.specs.SyncWord.{syncWord}
+use Rattle.frame.specs.Scrambling.{scrambled, historyAfter}
+use Rattle.sender.specs.declared.Sender.{Sender}
+
+-- history, parity and multiblock number 0
+abbrev pub fresh : Sender
+fresh = record { history = 0; parity = 0; number = 0 }
+
+-- whether a multiblock is the last of its extended multiblock
+abbrev pub last : ℕ → Sender → Bool
+last E s = eqb (s .number + 1) E
+
+-- the multiblock sent for 256 user octets: its sync word carries the parity of the one before
+unfoldable pub sentOne : Row → ℕ → Sender → List ℕ → ℕ → List ℕ
+sentOne R E s user command = multiblock (R .gap) (syncWord R (s .parity) command (bitOf (last E s))) (scrambled user (s .history) 256)
+
+-- the state after it
+unfoldable pub afterOne : Row → ℕ → Sender → List ℕ → Sender
+afterOne R E s user = record {
+  history = historyAfter (bitAt user) (s .history) 2048;
+  parity = parityOf (R .code) (scrambled user (s .history) 256);
+  number = pick (last E s) 0 (s .number + 1);
+}
+
+-- a run: the lane, and the state after it
+unfoldable pub lane : Row → ℕ → Sender → List ℕ → List ℕ → List ℕ
+lane R E s user [] = []
+lane R E s user (c ∷ commands) = sentOne R E s (take 256 user) c ++ lane R E (afterOne R E s (take 256 user)) (drop 256 user) commands
+
+unfoldable pub after : Row → ℕ → Sender → List ℕ → List ℕ → Sender
+after R E s user [] = s
+after R E s user (c ∷ commands) = after R E (afterOne R E s (take 256 user)) (drop 256 user) commands

@@ -1,0 +1,30 @@
+// The sender: user octets and commands to lane octets. Document 01, "From octets to lane bits" and "Numbers of refusal".
+ghost use mathlib.Core.Path.{_≡_};
+ghost use Rattle.sender.specs.Lane.{fresh};
+
+// What a sender carries from one call to the next: the last 58 bits sent, the parity of the last multiblock, and the number of the next
+// multiblock in its extended multiblock.
+pub struct Sender {
+    pub history: u64,
+    pub parity: u32,
+    pub number: u32,
+}
+
+// A refusal, or 0 with the multiblocks sent; and the state for the next call.
+pub struct Sent {
+    pub refusal: u8,
+    pub count: usize,
+    pub state: Sender,
+}
+
+impl Sender {
+    pub fn fresh() -> Sender
+        ensures { λ r. ⌜ r ≡ fresh ⌝ }
+    {
+        Sender {
+            history: 0,
+            parity: 0,
+            number: 0,
+        }
+    }
+}
