@@ -7,3 +7,4 @@ pub mod Runs
 pub mod Words
 pub mod Tests
 pub mod Laid
+pub mod Octets

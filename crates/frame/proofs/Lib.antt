@@ -4,4 +4,7 @@ pub mod Fields
 pub mod Dozen
 pub mod Scrambling
 pub mod Blocks
+pub mod Lane
+pub mod Filled
+pub mod Packing
 pub mod Parts

@@ -6,3 +6,4 @@ pub mod SyncWord
 pub mod Scrambling
 pub mod Parts
 pub mod Dozen
+pub mod Filled

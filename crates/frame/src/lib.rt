@@ -1,3 +1,4 @@
 // Where each bit stands: scrambling, sync words, blocks and multiblocks. Clauses 7.1 to 7.3; document 01, "From octets to lane bits".
+pub mod multiblock;
 pub mod scrambler;
 pub mod sync;

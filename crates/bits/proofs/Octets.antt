@@ -1,0 +1,90 @@
+-- Octets made of a stream's bits have those bits, and octets made of their own bits are themselves. Assumes nothing.
+use mathlib.Core.Path.{_≡_, sym, ap, ap₂, _∙_}
+use mathlib.Core.List.{List}
+use Prim.Native.Nat.{ℕ, zero, suc, _+_, _-_, _*_, _/_, _%_, _^_, _≤_, _<_}
+use native.Mathlib.Nat.{mod-one, zero-add}
+use native.Mathlib.Numerals.{add-one}
+use native.Mathlib.Omega.{arith}
+use lib.ListN.{length, getD, take, drop}
+use lib.Seq.{getD-take, getD-drop, length-take-le, ext-getD}
+use lib.Pow.{high, low, shr-shr, mod-pow-add}
+use Rattle.bits.specs.Order.{bitAt, number, digit, octetsOf}
+use Rattle.bits.proofs.Numbers.{number-split, number-lt, number-ext, number-octet, bit-octet}
+use Rattle.bits.proofs.Runs.{run-ext, length-run, getD-run}
+
+-- ---- bits of a number
+
+-- w bits of a stream, t bits into a longer run, with r bits after them
+module _ (f : ℕ → ℕ) (bits : (k : ℕ) → f k < 2) where
+  pub number-inside : (k t w r : ℕ) → number f k (t + w + r) / 2 ^ r % 2 ^ w ≡ number f (k + t) w
+  number-inside k t w r =
+      ap (λ (x : ℕ). x / 2 ^ r % 2 ^ w) (number-split f k (t + w) r)
+      ∙ ap (λ (x : ℕ). x % 2 ^ w) (high (number f k (t + w)) r (number-lt f bits (k + (t + w)) r))
+      ∙ ap (λ (x : ℕ). x % 2 ^ w) (number-split f k t w)
+      ∙ low (number f k t) w (number-lt f bits (k + t) w)
+
+  number-one : (k : ℕ) → number f k 1 ≡ f k
+  unfolding number
+  number-one k = let e : f (k + 0) ≡ f k = ap f (omega arith) in omega arith
+
+  -- the digits of the number that a run writes are the run's bits
+  pub digit-number : (k n j : ℕ) → j < n → digit n (number f k n) j ≡ f (k + j)
+  unfolding digit
+  digit-number k n j h =
+      ap (λ (x : ℕ). number f k x / 2 ^ (n - 1 - j) % 2) {x = n} {y = j + 1 + (n - 1 - j)} (omega arith)
+      ∙ number-inside k j 1 (n - 1 - j)
+      ∙ number-one (k + j)
+
+pub digit-lt : (n v j : ℕ) → digit n v j < 2
+unfolding digit
+digit-lt n v j = omega arith
+
+-- w digits of a number, k digits into its n, with r digits after them
+pub number-digit : (n v k w r : ℕ) → k + w + r ≡ n → number (digit n v) k w ≡ v / 2 ^ r % 2 ^ w
+unfolding number digit
+number-digit n v k zero r e = sym (mod-one _)
+number-digit n v k (suc w) r e =
+    ap₂ (λ (x y : ℕ). x * 2 + v / 2 ^ y % 2) (number-digit n v k w (suc r) (omega arith) ∙ ap (λ (x : ℕ). x % 2 ^ w) (sym (shr-shr v r 1 ∙ ap (λ (x : ℕ). v / 2 ^ x) (add-one r)))) (omega arith)
+    ∙ sym (ap (λ (x : ℕ). v / 2 ^ r % 2 ^ x) (sym (add-one w)) ∙ mod-pow-add (v / 2 ^ r) w 1)
+
+-- ---- octets of a stream
+
+module _ (f : ℕ → ℕ) where
+  pub length-octetsOf : (n : ℕ) → length (octetsOf f n) ≡ n
+  unfolding octetsOf
+  length-octetsOf n = length-run (λ j. number f (8 * j) 8) 0 n
+
+  pub getD-octetsOf : (n j : ℕ) → j < n → getD (octetsOf f n) j 0 ≡ number f (8 * j) 8
+  unfolding octetsOf
+  getD-octetsOf n j h = getD-run (λ j. number f (8 * j) 8) 0 n j h ∙ ap (λ (i : ℕ). number f (8 * i) 8) (zero-add j)
+
+  pub bit-octetsOf : ((k : ℕ) → f k < 2) → (n k : ℕ) → k < 8 * n → bitAt (octetsOf f n) k ≡ f k
+  unfolding digit
+  bit-octetsOf bits n k h =
+      ap (bitAt (octetsOf f n)) {x = k} {y = 8 * (k / 8) + k % 8} (omega arith)
+      ∙ bit-octet (octetsOf f n) (k / 8) (k % 8) (omega arith)
+      ∙ ap (λ (x : ℕ). x / 2 ^ (7 - k % 8) % 2) (getD-octetsOf n (k / 8) (omega arith))
+      ∙ ap (λ (x : ℕ). number f (8 * (k / 8)) 8 / 2 ^ x % 2) {x = 7 - k % 8} {y = 8 - 1 - k % 8} (omega arith)
+      ∙ digit-number f bits (8 * (k / 8)) 8 (k % 8) (omega arith)
+      ∙ ap f (omega arith)
+
+pub octetsOf-ext : (f g : ℕ → ℕ) (n : ℕ) → ((k : ℕ) → k < 8 * n → f k ≡ g k) → octetsOf f n ≡ octetsOf g n
+unfolding octetsOf
+octetsOf-ext f g n h =
+    run-ext (λ j. number f (8 * j) 8) (λ j. number g (8 * j) 8) 0 0 n
+    (λ j l. number-ext f g (8 * (0 + j)) (8 * (0 + j)) 8 (λ i q. h (8 * (0 + j) + i) (omega arith)))
+
+-- ---- octets of their own bits
+
+pub octetsOf-bits : (s : List ℕ) (n : ℕ) → ((j : ℕ) → j < n → getD s j 0 < 256) → n ≤ length s → octetsOf (bitAt s) n ≡ take n s
+octetsOf-bits s n octet-lt h =
+    ext-getD 0 (octetsOf (bitAt s) n) (take n s) (length-octetsOf (bitAt s) n ∙ sym (length-take-le n s h))
+    (λ j l.
+    let q : j < n = omega (arith, length-octetsOf (bitAt s) n) in
+    getD-octetsOf (bitAt s) n j q ∙ number-octet s j (octet-lt j q) ∙ sym (getD-take n s j 0 q))
+
+-- the octets from octet a on
+pub bit-drop : (a : ℕ) (s : List ℕ) (k : ℕ) → bitAt (drop a s) k ≡ bitAt s (8 * a + k)
+unfolding bitAt
+bit-drop a s k =
+    ap₂ (λ (x y : ℕ). x / 2 ^ (7 - y) % 2) (getD-drop a s (k / 8) 0 ∙ ap (λ (x : ℕ). getD s x 0) {x = a + k / 8} {y = (8 * a + k) / 8} (omega arith)) (omega arith)

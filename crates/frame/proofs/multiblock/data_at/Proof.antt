@@ -1,0 +1,62 @@
+-- `frame::multiblock::data_at` meets its contract.
+-- Assumes nothing.
+use borrow.Author.Needs.{needs}
+use Prim.Native.Nat.{_+_, _-_, _*_, _/_, _%_}
+use mathlib.Core.Path.{refl}
+use native.Mathlib.Omega.{arith}
+use denote.Ref.{now}
+use Rattle.frame.proofs.Packing.{word-and-octet}
+use Rattle.frame.proofs.multiblock.data_at.Statement.{statement}
+use Rattle.frame.proofs.multiblock.data_at.Tie as tie
+
+mul-at : tie.Need-mul-at
+mul-at c = search needs
+
+mul-before : tie.Need-mul-before
+mul-before c = search needs
+
+add-before : tie.Need-add-before
+add-before c = search needs
+
+add-ninth : tie.Need-add-ninth
+add-ninth c = search needs
+
+shared-slice-read-ninth : tie.Need-shared-slice-read-ninth
+shared-slice-read-ninth c = search needs
+
+cast-ninth : tie.Need-cast-ninth
+cast-ninth c = omega (arith, c .shared-slice-known2 .given (66 * c .before .before .args .block / 8 + 8))
+
+word-at-requires : tie.Need-word-at-requires
+word-at-requires c κs = search needs
+
+shl-result : tie.Need-shl-result
+shl-result c = search needs
+
+sub-result : tie.Need-sub-result
+sub-result c = search needs
+
+shr-result : tie.Need-shr-result
+shr-result c = search needs
+
+returns : tie.Need-returns
+returns c =
+    let a = c .before .before .before .args in
+    let at = 66 * a .block / 8 in
+    word-and-octet (now (a .lane)) at (66 * a .block % 8 + 2) (66 * a .block + 2) (c .word-at .result) _ (c .word-at .ensures) refl (omega (arith, c .before .shared-slice-known2 .given (at + 8))) (omega arith) (omega arith)
+
+pub data-at-spec : {M : Type 1} → statement M
+data-at-spec =
+    tie.close
+    (tie.spec
+    mul-at
+    mul-before
+    add-before
+    add-ninth
+    shared-slice-read-ninth
+    cast-ninth
+    word-at-requires
+    shl-result
+    sub-result
+    shr-result
+    returns)

@@ -1,0 +1,169 @@
+// Multiblocks of 66-bit blocks written to a lane and read from it: clauses 7.1.2, 7.1.3 and 7.2.2. A block begins at any even bit of an
+// octet: shifts and masks gather its header and its 64 data bits across octet edges.
+ghost use mathlib.Core.Path.{_≡_};
+ghost use Prim.Native.Nat.{_+_, _-_, _*_, _≤_, _<_};
+ghost use lib.Dec.{eqb, ltb};
+ghost use lib.ListN.{length};
+ghost use Rattle.bits.specs.Choice.{pick};
+ghost use Rattle.bits.specs.Order.{bitAt, digit, number};
+ghost use Rattle.frame.specs.Filled.{Filled};
+ghost use Rattle.frame.specs.Headers.{carries, spoilt, headerOf};
+ghost use Rattle.frame.specs.Lane.{multiblock, multiblockBit, dataOctets, headerAt, syncBit, spoiltBit};
+ghost use Rattle.frame.specs.Parts.{refusalOf, written};
+
+// 4 where fewer octets are given than a multiblock takes, 7 where fewer are lent than it fills, or 0.
+fn refusal_of(given: usize, takes: usize, lent: usize, fills: usize) -> u8
+    ensures { λ r. ⌜ r ≡ pick (ltb given takes) 4 (pick (ltb lent fills) 7 0) ⌝ }
+{
+    if given < takes {
+        return 4;
+    }
+    if lent < fills {
+        return 7;
+    }
+    0
+}
+
+// A word stored as eight octets.
+fn put_word(word: u64, at: usize, out: &mut [u8])
+    requires { ⌜ at + 8 ≤ length (now out) ⌝ }
+    ensures { λ _. ⌜ Filled (λ k. digit 64 word (k - 8 * at)) (now (out .entry)) (now (out .exit)) at (at + 8) ⌝ }
+{
+    out[at] = ((word >> 56) & 255) as u8;
+    out[at + 1] = ((word >> 48) & 255) as u8;
+    out[at + 2] = ((word >> 40) & 255) as u8;
+    out[at + 3] = ((word >> 32) & 255) as u8;
+    out[at + 4] = ((word >> 24) & 255) as u8;
+    out[at + 5] = ((word >> 16) & 255) as u8;
+    out[at + 6] = ((word >> 8) & 255) as u8;
+    out[at + 7] = (word & 255) as u8;
+}
+
+// The header that carries a bit of the sync word.
+fn header_of(sync: u32, block: usize) -> u64
+    requires { ⌜ block < 32 ⌝ }
+    ensures { λ r. ⌜ r ≡ headerOf (digit 32 sync block) ⌝ }
+{
+    if (sync >> (31 - block)) & 1 == 1 {
+        1
+    } else {
+        2
+    }
+}
+
+// Four blocks, which fill 33 octets: each begins two bits further into an octet than the one before.
+fn put_four(sync: u32, octets: &[u8], four: usize, lane: &mut [u8])
+    requires { ⌜ (four < 8) × (264 ≤ length (now lane)) ⌝ }
+    ensures { λ _. ⌜ Filled (multiblockBit 0 sync (now (octets .entry))) (now (lane .entry)) (now (lane .exit)) (33 * four) (33 * four + 33) ⌝ }
+{
+    let at = 33 * four;
+    let first = bits::word_at(octets, 32 * four);
+    let second = bits::word_at(octets, 32 * four + 8);
+    let third = bits::word_at(octets, 32 * four + 16);
+    let fourth = bits::word_at(octets, 32 * four + 24);
+    let header = header_of(sync, 4 * four);
+    put_word((header << 62) | (first >> 2), at, lane);
+    let header = header_of(sync, 4 * four + 1);
+    put_word((first << 62) | (header << 60) | (second >> 4), at + 8, lane);
+    let header = header_of(sync, 4 * four + 2);
+    put_word(
+        (second << 60) | (header << 58) | (third >> 6),
+        at + 16,
+        lane,
+    );
+    let header = header_of(sync, 4 * four + 3);
+    put_word(
+        (third << 58) | (header << 56) | (fourth >> 8),
+        at + 24,
+        lane,
+    );
+    lane[at + 32] = (fourth & 255) as u8;
+}
+
+// A multiblock that carries a sync word and the first 256 octets, over the start of `lane`.
+pub fn write(sync: u32, octets: &[u8], lane: &mut [u8]) -> u8
+    ensures { λ r. ⌜ r ≡ refusalOf 256 (now (octets .entry)) 264 (now (lane .entry)) ⌝ }
+    ensures { λ r. ⌜ now (lane .exit) ≡ written r (multiblock 0 sync (now (octets .entry))) (now (lane .entry)) ⌝ }
+{
+    let refusal = refusal_of(octets.len(), 256, lane.len(), 264);
+    if refusal != 0 {
+        return refusal;
+    }
+    for four in 0..8usize {
+        put_four(sync, octets, four, lane);
+    }
+    0
+}
+
+// A block's header: its two bits never cross an octet's edge.
+fn header_at(lane: &[u8], block: usize) -> u8
+    requires { ⌜ (block < 32) × (264 ≤ length (now lane)) ⌝ }
+    ensures { λ r. ⌜ r ≡ headerAt 0 (bitAt (now (lane .entry))) 0 block ⌝ }
+{
+    (lane[66 * block / 8] >> (6 - 66 * block % 8)) & 3
+}
+
+// The bit that a header carries.
+fn carried(header: u8) -> u32
+    ensures { λ r. ⌜ r ≡ carries header ⌝ }
+{
+    if header == 1 { 1 } else { 0 }
+}
+
+// 1 for an invalid header.
+fn invalid(header: u8) -> u32
+    ensures { λ r. ⌜ r ≡ spoilt header ⌝ }
+{
+    if header == 1 {
+        return 0;
+    }
+    if header == 2 { 0 } else { 1 }
+}
+
+// A block's 64 data bits: eight octets loaded as a word, and bits of a ninth.
+fn data_at(lane: &[u8], block: usize) -> u64
+    requires { ⌜ (block < 32) × (264 ≤ length (now lane)) ⌝ }
+    ensures { λ r. ⌜ r ≡ number (bitAt (now (lane .entry))) (66 * block + 2) 64 ⌝ }
+{
+    let at = 66 * block / 8;
+    let before = 66 * block % 8 + 2;
+    let ninth = lane[at + 8] as u64;
+    (bits::word_at(lane, at) << before) | (ninth >> (8 - before))
+}
+
+// A refusal, or 0 with the sync bits of the multiblock read and a 1 for each header that was invalid. Position 0 is the highest bit.
+pub struct Headers {
+    pub refusal: u8,
+    pub bits: u32,
+    pub bad: u32,
+}
+
+// The multiblock at the start of `lane`: its data octets over the start of `octets`, and its headers.
+pub fn read(lane: &[u8], octets: &mut [u8]) -> Headers
+    ensures { λ r. ⌜ r .refusal ≡ refusalOf 264 (now (lane .entry)) 256 (now (octets .entry)) ⌝ }
+    ensures { λ r. ⌜ r .bits ≡ pick (eqb (r .refusal) 0) (number (syncBit 0 (bitAt (now (lane .entry))) 0) 0 32) 0 ⌝ }
+    ensures { λ r. ⌜ r .bad ≡ pick (eqb (r .refusal) 0) (number (spoiltBit 0 (bitAt (now (lane .entry))) 0) 0 32) 0 ⌝ }
+    ensures { λ r. ⌜ now (octets .exit) ≡ written (r .refusal) (dataOctets 0 (bitAt (now (lane .entry))) 0) (now (octets .entry)) ⌝ }
+{
+    let refusal = refusal_of(lane.len(), 264, octets.len(), 256);
+    if refusal != 0 {
+        return Headers {
+            refusal,
+            bits: 0,
+            bad: 0,
+        };
+    }
+    let mut bits: u32 = 0;
+    let mut bad: u32 = 0;
+    for block in 0..32usize {
+        let header = header_at(lane, block);
+        bits = (bits << 1) | carried(header);
+        bad = (bad << 1) | invalid(header);
+        put_word(data_at(lane, block), 8 * block, octets);
+    }
+    Headers {
+        refusal: 0,
+        bits,
+        bad,
+    }
+}
