@@ -1,12 +1,16 @@
-//! The second program: parity as clauses 7.4.2 and 7.5.2 define it, by long division of polynomials.
-//! `second tables` prints Tables 52, 54 and 55; `second misprint` and `second bursts` print what can be
-//! found by trying every case.
+//! The second program: scrambling bit by bit (clause 7.2.4), sync words by the lists of Tables 41 and 45 (clause 7.3),
+//! and parity by long division of polynomials (clauses 7.4.2 and 7.5.2).
+//! `second tables` prints Tables 37, 52, 54 and 55 and a spread of sync words; `second misprint` and `second bursts`
+//! print what can be found by trying every case.
 
 mod bursts;
 mod code;
 mod misprint;
 mod polynomial;
+mod scrambler;
+mod sync;
 mod tables;
+mod words;
 
 use std::process::ExitCode;
 
@@ -15,7 +19,7 @@ const USAGE: &str = "usage: second tables | misprint | bursts";
 /// What the arguments ask for, or nothing if they ask for nothing known.
 fn answer(arguments: &[String]) -> Option<Vec<String>> {
     match arguments {
-        [word] if word == "tables" => Some(tables::lines()),
+        [word] if word == "tables" => Some([tables::lines(), words::lines()].concat()),
         [word] if word == "misprint" => Some(misprint::lines()),
         [word] if word == "bursts" => Some(bursts::lines()),
         _ => None,
