@@ -16,7 +16,7 @@ use Rattle.bits.proofs.Runs.{run-ext, length-run, getD-run}
 
 -- w bits of a stream, t bits into a longer run, with r bits after them
 module _ (f : ℕ → ℕ) (bits : (k : ℕ) → f k < 2) where
-  pub number-inside : (k t w r : ℕ) → number f k (t + w + r) / 2 ^ r % 2 ^ w ≡ number f (k + t) w
+  number-inside : (k t w r : ℕ) → number f k (t + w + r) / 2 ^ r % 2 ^ w ≡ number f (k + t) w
   number-inside k t w r =
       ap (λ (x : ℕ). x / 2 ^ r % 2 ^ w) (number-split f k (t + w) r)
       ∙ ap (λ (x : ℕ). x % 2 ^ w) (high (number f k (t + w)) r (number-lt f bits (k + (t + w)) r))

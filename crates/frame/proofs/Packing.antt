@@ -11,7 +11,7 @@ use lib.ListN.{length, getD, set}
 use lib.Pow.{pow-add, high, low, mod-pow-add, shl-exact, shl-lt, shl-shr}
 use Rattle.bits.specs.Order.{bitAt, digit, number}
 use Rattle.bits.proofs.Numbers.{bitAt-lt, number-split, number-lt, number-ext, number-octet}
-use Rattle.bits.proofs.Octets.{number-inside}
+use Rattle.bits.proofs.Octets.{digit-number, number-digit}
 use Rattle.frame.specs.Headers.{value, carries, spoilt, headerOf}
 use Rattle.frame.specs.Lane.{blockWidth, headerPlace, dataPlace, headerAt, syncBit, spoiltBit, dataBit, blockBit, multiblockBit}
 use Rattle.frame.specs.Filled.{Filled}
@@ -41,7 +41,7 @@ module _ (f : ℕ → ℕ) (bits : (k : ℕ) → f k < 2) where
       ∙ high (number f k n) (64 - n) (number-lt f bits (k + n) (64 - n))
 
   -- upper | next >> n: the first bits of the next word below n bits that stand at the top
-  pub lay-below : (k n upper next : ℕ) → n ≤ 64 → upper ≡ number f k n * 2 ^ (64 - n) → next ≡ number f (k + n) 64 → bitOr upper (next / 2 ^ n) ≡ number f k 64
+  lay-below : (k n upper next : ℕ) → n ≤ 64 → upper ≡ number f k n * 2 ^ (64 - n) → next ≡ number f (k + n) 64 → bitOr upper (next / 2 ^ n) ≡ number f k 64
   lay-below k n upper next h eu en =
       let e : next / 2 ^ n ≡ number f (k + n) (64 - n) = ap (λ (x : ℕ). next / 2 ^ x) {x = n} {y = 64 - (64 - n)} (omega arith) ∙ first-bits (k + n) (64 - n) next (omega arith) en in
       ap₂ bitOr eu e
@@ -49,15 +49,15 @@ module _ (f : ℕ → ℕ) (bits : (k : ℕ) → f k < 2) where
       ∙ sym (number-split f k n (64 - n))
       ∙ ap (number f k) (omega arith)
 
-  -- header << (62 - s)
   header-lt : (k header : ℕ) → header ≡ number f k 2 → header < 4
   header-lt k header e = subst (λ (x : ℕ). x < 4) (sym e) (number-lt f bits k 2)
 
-  pub header-first : (k header : ℕ) → header ≡ number f k 2 → header * 2 ^ 62 % 2 ^ 64 ≡ number f k 2 * 2 ^ 62
+  -- header << 62: a header at the top of a word
+  header-first : (k header : ℕ) → header ≡ number f k 2 → header * 2 ^ 62 % 2 ^ 64 ≡ number f k 2 * 2 ^ 62
   header-first k header e = shl-exact 2 62 64 (header-lt k header e) (omega arith) ∙ ap (λ (x : ℕ). x * 2 ^ 62) e
 
   -- word << (64 - s) | header << (62 - s): a header below the last s bits of a word
-  pub header-below : (j k s word header : ℕ) → s ≤ 62 → j + 64 ≡ k + s → word ≡ number f j 64 → header ≡ number f (k + s) 2
+  header-below : (j k s word header : ℕ) → s ≤ 62 → j + 64 ≡ k + s → word ≡ number f j 64 → header ≡ number f (k + s) 2
       → bitOr (word * 2 ^ (64 - s) % 2 ^ 64) (header * 2 ^ (62 - s) % 2 ^ 64) ≡ number f k (s + 2) * 2 ^ (62 - s)
   header-below j k s word header h ej ew eh =
       let hl = header-lt (k + s) header eh in
@@ -73,7 +73,7 @@ module _ (f : ℕ → ℕ) (bits : (k : ℕ) → f k < 2) where
       ∙ ap (λ (x : ℕ). x * 2 ^ (62 - s)) (sym (number-split f k s 2))
 
   -- bits << 1 | bit
-  pub bit-more : (k n word bit : ℕ) → n < 32 → word ≡ number f k n → bit ≡ f (k + n) → bitOr (word * 2 ^ 1 % 2 ^ 32) bit ≡ number f k (n + 1)
+  bit-more : (k n word bit : ℕ) → n < 32 → word ≡ number f k n → bit ≡ f (k + n) → bitOr (word * 2 ^ 1 % 2 ^ 32) bit ≡ number f k (n + 1)
   unfolding number
   bit-more k n word bit h ew eb =
       ap (λ (x : ℕ). bitOr x bit) (shl-exact n 1 32 (subst (λ (x : ℕ). x < 2 ^ n) (sym ew) (number-lt f bits k n)) (omega arith))
@@ -98,20 +98,19 @@ word-and-octet octets at t k word octet ew eo h ek ht =
     ∙ sym (number-split f k (64 - t) t)
     ∙ ap (number f k) (omega arith)
 
--- octet >> (6 - t) & 3: two bits that begin t bits into an octet
-pub two-bits : (octets : List ℕ) (at t k octet : ℕ) → octet ≡ getD octets at 0 → octet < 256 → k ≡ 8 * at + t → t ≤ 6 → bitAnd (octet / 2 ^ (6 - t)) 3 ≡ number (bitAt octets) k 2
-two-bits octets at t k octet eo h ek ht =
-    and-mask (octet / 2 ^ (6 - t)) 2
-    ∙ ap (λ (x : ℕ). x / 2 ^ (6 - t) % 4) (eo ∙ sym (number-octet octets at (subst (λ (x : ℕ). x < 256) eo h)) ∙ ap (number (bitAt octets) (8 * at)) {x = 8} {y = t + 2 + (6 - t)} (omega arith))
-    ∙ number-inside (bitAt octets) (bitAt-lt octets) (8 * at) t 2 (6 - t)
-    ∙ ap (λ (x : ℕ). number (bitAt octets) x 2) (sym ek)
+-- word >> (62 - t) & 3: two bits that stand t bits into a word
+pub two-bits : (word t : ℕ) → t ≤ 62 → bitAnd (word / 2 ^ (62 - t)) 3 ≡ number (digit 64 word) t 2
+two-bits word t h = and-mask (word / 2 ^ (62 - t)) 2 ∙ sym (number-digit 64 word t 2 (62 - t) (omega arith))
 
 -- the bits of block b, as the lane's definitions have them
-pub header-read : (f : ℕ → ℕ) (b : ℕ) → number f (66 * b) 2 ≡ headerAt 0 f 0 b
+pub header-read : (f : ℕ → ℕ) → ((k : ℕ) → f k < 2) → (b at word header : ℕ) → at ≡ 66 * b / 8 → word ≡ number f (8 * at) 64 → header ≡ number (digit 64 word) (66 * b % 8) 2
+    → header ≡ headerAt 0 f 0 b
 unfolding number headerAt headerPlace blockWidth value
-header-read f b =
-    let first : f (66 * b + 0) ≡ f (66 * (32 * 0 + b)) = ap f (omega arith) in
-    let second : f (66 * b + 1) ≡ f (66 * (32 * 0 + b) + 1) = ap f (omega arith) in omega arith
+header-read f bits b at word header ea ew eh =
+    let t = 66 * b % 8 in
+    let bit : (j : ℕ) → j < 2 → digit 64 word (t + j) ≡ f (66 * (32 * 0 + b) + j) =
+    λ j h. ap (λ (x : ℕ). digit 64 x (t + j)) ew ∙ digit-number f bits (8 * at) 64 (t + j) (omega arith) ∙ ap f (omega arith) in
+    let first : f (66 * (32 * 0 + b) + 0) ≡ f (66 * (32 * 0 + b)) = ap f (omega arith) in omega (arith, bit 0 (lit≤ tt), bit 1 (lit≤ tt))
 
 pub data-read : (f : ℕ → ℕ) (b : ℕ) → number f (66 * b + 2) 64 ≡ number (dataBit 0 f 0) (64 * b) 64
 unfolding dataBit dataPlace headerPlace blockWidth
@@ -164,7 +163,7 @@ module _ (sync : ℕ) (octets : List ℕ) where
   data-is b given block e eb = eb ∙ ap (λ (x : ℕ). number (bitAt octets) x 64) (omega arith) ∙ sym (data-written b)
 
   -- the word that begins with block b
-  pub first-word : (b given at header block : ℕ) → header ≡ headerOf (digit 32 sync b) → block ≡ number (bitAt octets) (8 * given) 64 → given ≡ 8 * b → 8 * at ≡ 66 * b
+  first-word : (b given at header block : ℕ) → header ≡ headerOf (digit 32 sync b) → block ≡ number (bitAt octets) (8 * given) 64 → given ≡ 8 * b → 8 * at ≡ 66 * b
       → bitOr (header * 2 ^ 62 % 2 ^ 64) (block / 2 ^ 2) ≡ number (multiblockBit 0 sync octets) (8 * at) 64
   first-word b given at header block eh eb eg place =
       let f = multiblockBit 0 sync octets in
@@ -173,7 +172,7 @@ module _ (sync : ℕ) (octets : List ℕ) where
       (data-is b given block eg eb ∙ ap (λ (x : ℕ). number f x 64) (omega arith))
 
   -- the word that holds the last s bits of a block, then block b
-  pub next-word : (b s earlier given at before header block : ℕ) → before ≡ number (bitAt octets) (8 * earlier) 64 → header ≡ headerOf (digit 32 sync b) → block ≡ number (bitAt octets) (8 * given) 64
+  next-word : (b s earlier given at before header block : ℕ) → before ≡ number (bitAt octets) (8 * earlier) 64 → header ≡ headerOf (digit 32 sync b) → block ≡ number (bitAt octets) (8 * given) 64
       → earlier + 8 ≡ given → given ≡ 8 * b → 8 * at + s ≡ 66 * b → s ≤ 62
       → bitOr (bitOr (before * 2 ^ (64 - s) % 2 ^ 64) (header * 2 ^ (62 - s) % 2 ^ 64)) (block / 2 ^ (s + 2)) ≡ number (multiblockBit 0 sync octets) (8 * at) 64
   next-word b s earlier given at before header block ew eh eb ee eg place h =
@@ -184,7 +183,7 @@ module _ (sync : ℕ) (octets : List ℕ) where
       (data-is b given block eg eb ∙ ap (λ (x : ℕ). number f x 64) (omega arith))
 
   -- the octet that block b ends
-  pub last-octet : (b given at block : ℕ) → block ≡ number (bitAt octets) (8 * given) 64 → given ≡ 8 * b → 8 * at + 8 ≡ 66 * (b + 1) → bitAnd block 255 ≡ number (multiblockBit 0 sync octets) (8 * at) 8
+  last-octet : (b given at block : ℕ) → block ≡ number (bitAt octets) (8 * given) 64 → given ≡ 8 * b → 8 * at + 8 ≡ 66 * (b + 1) → bitAnd block 255 ≡ number (multiblockBit 0 sync octets) (8 * at) 8
   last-octet b given at block eb eg place =
       and-mask block 8 ∙ last-bits (multiblockBit 0 sync octets) bits (66 * b + 2) (8 * at) 8 block (lit≤ tt) (omega arith) (data-is b given block eg eb)
 

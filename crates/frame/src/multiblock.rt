@@ -1,14 +1,14 @@
 // Multiblocks of 66-bit blocks written to a lane and read from it: clauses 7.1.2, 7.1.3 and 7.2.2. A block begins at any even bit of an
 // octet: shifts and masks gather its header and its 64 data bits across octet edges.
 ghost use mathlib.Core.Path.{_≡_};
-ghost use Prim.Native.Nat.{_+_, _-_, _*_, _≤_, _<_};
+ghost use Prim.Native.Nat.{_+_, _-_, _*_, _/_, _%_, _≤_, _<_};
 ghost use lib.Dec.{eqb, ltb};
 ghost use lib.ListN.{length};
 ghost use Rattle.bits.specs.Choice.{pick};
 ghost use Rattle.bits.specs.Order.{bitAt, digit, number};
 ghost use Rattle.frame.specs.Filled.{Filled};
 ghost use Rattle.frame.specs.Headers.{carries, spoilt, headerOf};
-ghost use Rattle.frame.specs.Lane.{multiblock, multiblockBit, dataOctets, headerAt, syncBit, spoiltBit};
+ghost use Rattle.frame.specs.Lane.{multiblock, multiblockBit, dataOctets, syncBit, spoiltBit};
 ghost use Rattle.frame.specs.Parts.{refusalOf, written};
 
 // 4 where fewer octets are given than a multiblock takes, 7 where fewer are lent than it fills, or 0.
@@ -22,6 +22,27 @@ fn refusal_of(given: usize, takes: usize, lent: usize, fills: usize) -> u8
         return 7;
     }
     0
+}
+
+fn wide(octet: u8) -> u64
+    ensures { λ r. ⌜ r ≡ octet ⌝ }
+{
+    octet as u64
+}
+
+// Eight octets that are there, as one load. `bits::word_at` tests for the end, which no multiblock comes to.
+fn word_of(octets: &[u8], at: usize) -> u64
+    requires { ⌜ at + 8 ≤ length (now octets) ⌝ }
+    ensures { λ r. ⌜ r ≡ number (bitAt (now (octets .entry))) (8 * at) 64 ⌝ }
+{
+    (wide(octets[at]) << 56)
+        | (wide(octets[at + 1]) << 48)
+        | (wide(octets[at + 2]) << 40)
+        | (wide(octets[at + 3]) << 32)
+        | (wide(octets[at + 4]) << 24)
+        | (wide(octets[at + 5]) << 16)
+        | (wide(octets[at + 6]) << 8)
+        | wide(octets[at + 7])
 }
 
 // A word stored as eight octets.
@@ -53,14 +74,14 @@ fn header_of(sync: u32, block: usize) -> u64
 
 // Four blocks, which fill 33 octets: each begins two bits further into an octet than the one before.
 fn put_four(sync: u32, octets: &[u8], four: usize, lane: &mut [u8])
-    requires { ⌜ (four < 8) × (264 ≤ length (now lane)) ⌝ }
+    requires { ⌜ (four < 8) × (256 ≤ length (now octets)) × (264 ≤ length (now lane)) ⌝ }
     ensures { λ _. ⌜ Filled (multiblockBit 0 sync (now (octets .entry))) (now (lane .entry)) (now (lane .exit)) (33 * four) (33 * four + 33) ⌝ }
 {
     let at = 33 * four;
-    let first = bits::word_at(octets, 32 * four);
-    let second = bits::word_at(octets, 32 * four + 8);
-    let third = bits::word_at(octets, 32 * four + 16);
-    let fourth = bits::word_at(octets, 32 * four + 24);
+    let first = word_of(octets, 32 * four);
+    let second = word_of(octets, 32 * four + 8);
+    let third = word_of(octets, 32 * four + 16);
+    let fourth = word_of(octets, 32 * four + 24);
     let header = header_of(sync, 4 * four);
     put_word((header << 62) | (first >> 2), at, lane);
     let header = header_of(sync, 4 * four + 1);
@@ -95,12 +116,12 @@ pub fn write(sync: u32, octets: &[u8], lane: &mut [u8]) -> u8
     0
 }
 
-// A block's header: its two bits never cross an octet's edge.
-fn header_at(lane: &[u8], block: usize) -> u8
-    requires { ⌜ (block < 32) × (264 ≤ length (now lane)) ⌝ }
-    ensures { λ r. ⌜ r ≡ headerAt 0 (bitAt (now (lane .entry))) 0 block ⌝ }
+// A block's header, of the word that begins with the octet where the block begins.
+fn header_in(word: u64, block: usize) -> u8
+    requires { ⌜ block < 32 ⌝ }
+    ensures { λ r. ⌜ r ≡ number (digit 64 word) (66 * block % 8) 2 ⌝ }
 {
-    (lane[66 * block / 8] >> (6 - 66 * block % 8)) & 3
+    ((word >> (62 - 66 * block % 8)) & 3) as u8
 }
 
 // The bit that a header carries.
@@ -120,15 +141,15 @@ fn invalid(header: u8) -> u32
     if header == 2 { 0 } else { 1 }
 }
 
-// A block's 64 data bits: eight octets loaded as a word, and bits of a ninth.
-fn data_at(lane: &[u8], block: usize) -> u64
+// A block's 64 data bits, of the same word and the octet after it.
+fn data_at(word: u64, lane: &[u8], block: usize) -> u64
     requires { ⌜ (block < 32) × (264 ≤ length (now lane)) ⌝ }
+    requires { ⌜ word ≡ number (bitAt (now lane)) (8 * (66 * block / 8)) 64 ⌝ }
     ensures { λ r. ⌜ r ≡ number (bitAt (now (lane .entry))) (66 * block + 2) 64 ⌝ }
 {
-    let at = 66 * block / 8;
     let before = 66 * block % 8 + 2;
-    let ninth = lane[at + 8] as u64;
-    (bits::word_at(lane, at) << before) | (ninth >> (8 - before))
+    let ninth = wide(lane[66 * block / 8 + 8]);
+    (word << before) | (ninth >> (8 - before))
 }
 
 // A refusal, or 0 with the sync bits of the multiblock read and a 1 for each header that was invalid. Position 0 is the highest bit.
@@ -156,10 +177,11 @@ pub fn read(lane: &[u8], octets: &mut [u8]) -> Headers
     let mut bits: u32 = 0;
     let mut bad: u32 = 0;
     for block in 0..32usize {
-        let header = header_at(lane, block);
+        let word = word_of(lane, 66 * block / 8);
+        let header = header_in(word, block);
         bits = (bits << 1) | carried(header);
         bad = (bad << 1) | invalid(header);
-        put_word(data_at(lane, block), 8 * block, octets);
+        put_word(data_at(word, lane, block), 8 * block, octets);
     }
     Headers {
         refusal: 0,

@@ -2,15 +2,11 @@
 -- Assumes nothing.
 use borrow.Author.Needs.{needs}
 use Prim.Native.Nat.{_+_, _-_, _*_, _/_, _%_}
-use mathlib.Core.Path.{refl}
 use native.Mathlib.Omega.{arith}
 use denote.Ref.{now}
 use Rattle.frame.proofs.Packing.{word-and-octet}
 use Rattle.frame.proofs.multiblock.data_at.Statement.{statement}
 use Rattle.frame.proofs.multiblock.data_at.Tie as tie
-
-mul-at : tie.Need-mul-at
-mul-at c = search needs
 
 mul-before : tie.Need-mul-before
 mul-before c = search needs
@@ -18,17 +14,17 @@ mul-before c = search needs
 add-before : tie.Need-add-before
 add-before c = search needs
 
-add-ninth : tie.Need-add-ninth
-add-ninth c = search needs
+mul-wide : tie.Need-mul-wide
+mul-wide c = search needs
 
-shared-slice-read-ninth : tie.Need-shared-slice-read-ninth
-shared-slice-read-ninth c = search needs
+add-wide : tie.Need-add-wide
+add-wide c = search needs
 
-cast-ninth : tie.Need-cast-ninth
-cast-ninth c = omega (arith, c .shared-slice-known2 .given (66 * c .before .before .args .block / 8 + 8))
+shared-slice-read-wide : tie.Need-shared-slice-read-wide
+shared-slice-read-wide c = search needs
 
-word-at-requires : tie.Need-word-at-requires
-word-at-requires c κs = search needs
+wide-requires : tie.Need-wide-requires
+wide-requires c κs = search needs
 
 shl-result : tie.Need-shl-result
 shl-result c = search needs
@@ -43,19 +39,19 @@ returns : tie.Need-returns
 returns c =
     let a = c .before .before .before .args in
     let at = 66 * a .block / 8 in
-    word-and-octet (now (a .lane)) at (66 * a .block % 8 + 2) (66 * a .block + 2) (c .word-at .result) _ (c .word-at .ensures) refl (omega (arith, c .before .shared-slice-known2 .given (at + 8))) (omega arith) (omega arith)
+    let octet = c .wide .ensures in
+    word-and-octet (now (a .lane)) at (66 * a .block % 8 + 2) (66 * a .block + 2) (a .word) (c .wide .result) (c .before .before .before .pre .1) octet (rw octet (omega (arith, c .before .shared-slice-known2 .given (at + 8)))) (omega arith) (omega arith)
 
 pub data-at-spec : {M : Type 1} → statement M
 data-at-spec =
     tie.close
     (tie.spec
-    mul-at
     mul-before
     add-before
-    add-ninth
-    shared-slice-read-ninth
-    cast-ninth
-    word-at-requires
+    mul-wide
+    add-wide
+    shared-slice-read-wide
+    wide-requires
     shl-result
     sub-result
     shr-result

@@ -15,7 +15,7 @@ use Rattle.frame.specs.Filled.{Filled}
 use Rattle.frame.specs.Lane.{dataBit, syncBit, spoiltBit, dataOctets}
 use Rattle.frame.specs.Parts.{refusalOf, written}
 use Rattle.frame.proofs.Filled.{filled-none, filled-to, filled-laid}
-use Rattle.frame.proofs.Packing.{sync-more, spoilt-more, data-more}
+use Rattle.frame.proofs.Packing.{header-read, sync-more, spoilt-more, data-more}
 use Rattle.frame.proofs.Parts.{long-enough, untouched}
 use Rattle.frame.proofs.multiblock.read.Statement.{statement}
 use Rattle.frame.proofs.multiblock.read.Tie as tie
@@ -52,8 +52,14 @@ loop-holds c =
     let long = long-enough 264 (now (a .lane)) 256 (now (a .octets)) (sym (c .before .refusal-of .ensures) ∙ c .if1 .left) in
     (search needs, long .0, long .1, unfold number in refl, unfold number in refl, filled-none _ 0 _ (omega arith))
 
-header-at-requires : tie.Need-header-at-requires Inv-loop μ-loop
-header-at-requires c κs = search needs
+mul-word-of : tie.Need-mul-word-of Inv-loop μ-loop
+mul-word-of c = search needs
+
+word-of-requires : tie.Need-word-of-requires Inv-loop μ-loop
+word-of-requires c κs = search needs
+
+header-in-requires : tie.Need-header-in-requires Inv-loop μ-loop
+header-in-requires c κs = search needs
 
 carried-requires : tie.Need-carried-requires Inv-loop μ-loop
 carried-requires c κs = search needs
@@ -62,7 +68,7 @@ invalid-requires : tie.Need-invalid-requires Inv-loop μ-loop
 invalid-requires c κs = search needs
 
 data-at-requires : tie.Need-data-at-requires Inv-loop μ-loop
-data-at-requires c κs = search needs
+data-at-requires c κs = (search needs, c .before .before .before .word-of .ensures)
 
 mul-put-word : tie.Need-mul-put-word Inv-loop μ-loop
 mul-put-word c = search needs
@@ -78,15 +84,16 @@ loop-less c = search needs
 
 loop-again : tie.Need-loop-again Inv-loop μ-loop
 loop-again c =
-    let l = c .before .before .before .before .before .before .before .before .before .loop in
-    let lane = bitAt (now (c .before .before .before .before .before .before .before .before .before .before .before .before .before .before .args .lane)) in
-    let header = c .before .before .before .before .before .before .before .header-at in (
+    let l = c .before .before .before .before .before .before .before .before .before .before .loop in
+    let octets = now (c .before .before .before .before .before .before .before .before .before .before .before .before .before .before .before .args .lane) in
+    let header = c .before .before .before .before .before .before .before .header-in in
+    let is = header-read (bitAt octets) (bitAt-lt octets) (l .block) _ (c .before .before .before .before .before .before .before .before .word-of .result) (header .result) refl (c .before .before .before .before .before .before .before .before .word-of .ensures) (header .ensures) in (
       search needs,
       l .inv .1,
       l .inv .2,
-      sync-more lane (l .block) (header .result) (omega arith) (header .ensures) (l .bits) (c .before .before .before .before .before .before .carried .result) (l .inv .3) (c .before .before .before .before .before .before .carried .ensures),
-      spoilt-more lane (l .block) (header .result) (omega arith) (header .ensures) (l .bad) (c .before .before .before .before .before .invalid .result) (l .inv .4) (c .before .before .before .before .before .invalid .ensures),
-      data-more lane (bitAt-lt (now (c .before .before .before .before .before .before .before .before .before .before .before .before .before .before .args .lane))) (l .block) (c .before .before .before .before .data-at .result) (l .inv .5) (c .before .before .put-word .ensures) (c .before .before .before .before .data-at .ensures),
+      sync-more (bitAt octets) (l .block) (header .result) (omega arith) is (l .bits) (c .before .before .before .before .before .before .carried .result) (l .inv .3) (c .before .before .before .before .before .before .carried .ensures),
+      spoilt-more (bitAt octets) (l .block) (header .result) (omega arith) is (l .bad) (c .before .before .before .before .before .invalid .result) (l .inv .4) (c .before .before .before .before .before .invalid .ensures),
+      data-more (bitAt octets) (bitAt-lt octets) (l .block) (c .before .before .before .before .data-at .result) (l .inv .5) (c .before .before .put-word .ensures) (c .before .before .before .before .data-at .ensures),
     )
 
 same-length : tie.Need-same-length Inv-loop μ-loop
@@ -111,7 +118,9 @@ read-spec =
     refusal-of-requires
     returns
     loop-holds
-    header-at-requires
+    mul-word-of
+    word-of-requires
+    header-in-requires
     carried-requires
     invalid-requires
     data-at-requires

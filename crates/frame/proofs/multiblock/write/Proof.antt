@@ -15,7 +15,7 @@ use Rattle.frame.proofs.multiblock.write.Statement.{statement}
 use Rattle.frame.proofs.multiblock.write.Tie as tie
 
 abbrev Inv-loop : tie.InvT-loop
-Inv-loop sync octets lane₀ refusal four₀ lane four = (four ≤ 8) × (264 ≤ length lane₀) × Filled (multiblockBit 0 sync octets) lane₀ lane 0 (33 * four)
+Inv-loop sync octets lane₀ refusal four₀ lane four = (four ≤ 8) × (256 ≤ length octets) × (264 ≤ length lane₀) × Filled (multiblockBit 0 sync octets) lane₀ lane 0 (33 * four)
 
 abbrev μ-loop : tie.MeasureT-loop
 μ-loop sync octets lane₀ refusal four₀ lane four = 8 - four
@@ -33,7 +33,8 @@ loop-holds : tie.Need-loop-holds Inv-loop μ-loop
 unfolding refusalOf
 loop-holds c =
     let a = c .before .before .before .before .args in
-    (search needs, long-enough 256 (now (a .octets)) 264 (now (a .lane)) (sym (c .before .refusal-of .ensures) ∙ c .if1 .left) .1, filled-none _ 0 _ (omega arith))
+    let long = long-enough 256 (now (a .octets)) 264 (now (a .lane)) (sym (c .before .refusal-of .ensures) ∙ c .if1 .left) in
+    (search needs, long .0, long .1, filled-none _ 0 _ (omega arith))
 
 put-four-requires : tie.Need-put-four-requires Inv-loop μ-loop
 put-four-requires c κs = search needs
@@ -47,16 +48,16 @@ loop-less c = search needs
 loop-again : tie.Need-loop-again Inv-loop μ-loop
 loop-again c =
     let l = c .before .before .before .before .before .loop in
-    (search needs, l .inv .1, filled-to (filled-join (l .inv .2) (c .before .before .put-four .ensures) refl (omega arith) (omega arith)) (omega arith))
+    (search needs, l .inv .1, l .inv .2, filled-to (filled-join (l .inv .3) (c .before .before .put-four .ensures) refl (omega arith) (omega arith)) (omega arith))
 
 same-length : tie.Need-same-length Inv-loop μ-loop
-same-length c = c .before .loop .inv .2 .same-length
+same-length c = c .before .loop .inv .3 .same-length
 
 returns-2 : tie.Need-returns-2 Inv-loop μ-loop
 unfolding refusalOf written multiblock laneOctets blockWidth
 returns-2 c =
     let l = c .before .loop in
-    (sym (c .before .before .if1 .left) ∙ c .before .before .before .refusal-of .ensures, filled-laid (filled-to (l .inv .2) (omega arith)) (l .inv .1))
+    (sym (c .before .before .if1 .left) ∙ c .before .before .before .refusal-of .ensures, filled-laid (filled-to (l .inv .3) (omega arith)) (l .inv .2))
 
 pub write-spec : {M : Type 1} → statement M
 write-spec =
