@@ -1,0 +1,148 @@
+-- An undamaged CRC-12 lane, fed from fresh at its true offset from any block of it, holds both locks after at most 95 + 128E blocks and at
+-- every block after: document 01, "Lock tables". Assumes nothing.
+use mathlib.Core.Path.{_≡_, refl, sym, ap, _∙_, subst}
+use mathlib.Core.Bool.{Bool, true, false}
+use Prim.Native.Nat.{ℕ, zero, suc, _+_, _-_, _*_, _%_, _≤_, _<_}
+use native.Mathlib.Nat.{add-suc, add-zero}
+use native.Mathlib.Numerals.{add-one, one-add}
+use native.Mathlib.Omega.{arith}
+use borrow.Author.Tests.{eq-eqb, ne-eqb}
+use lib.Dec.{eqb}
+use Rattle.bits.specs.Order.{run}
+use Rattle.frame.specs.Headers.{carries}
+use Rattle.lock.specs.Table.{headerHunting, headerLocked, valid, headerStep, withHeader, matches, hunting, moved, extendedStep, freshExtended, lockStep}
+use Rattle.lock.specs.Accepted.{widthOf, stepped}
+use Rattle.lock.specs.Run.{after, ran}
+use Rattle.lock.specs.Stream.{Crc12Sync, Crc12Headers, Held}
+use Rattle.lock.specs.declared.HeaderLock.{HeaderLock}
+use Rattle.lock.specs.declared.ExtendedLock.{ExtendedLock}
+use Rattle.lock.specs.declared.Lock.{Lock}
+use Rattle.lock.proofs.Choices.{pick-both}
+use Rattle.lock.proofs.Headers.{sound-le}
+use Rattle.lock.proofs.Runs.{ran-next, never-refused}
+use Rattle.lock.proofs.Follow.{hunts-on, with-hunting, follows}
+use Rattle.lock.proofs.Window.{Seen, seen-none, seen-more, seen-step}
+use Rattle.lock.proofs.Ends.{too-few, matches-at-ends}
+
+-- ---- a valid header, in each state of header lock
+
+-- a header lock, with a fresh extended lock
+abbrev withFresh : HeaderLock → Lock
+withFresh x = record { header = x; extended = freshExtended }
+
+module _ (width period header : ℕ) (k : valid header ≡ true) where
+  counts : (n : ℕ) → n < 63 → lockStep width period (withFresh (headerHunting 0 n)) header ≡ withFresh (headerHunting 0 (n + 1))
+  unfolding lockStep headerStep
+  counts n h = simp (k, ne-eqb (n + 1) 64 (λ z. omega arith))
+
+  gains : lockStep width period (withFresh (headerHunting 0 63)) header ≡ withFresh (headerLocked 0 0 0)
+  unfolding lockStep headerStep
+  gains = simp k
+
+  stays-locked : (x : HeaderLock) → x .locked ≡ true → headerStep width x true .locked ≡ true
+  unfolding headerStep
+  stays-locked x e = rw e (pick-both (λ (y : HeaderLock). y .locked ≡ true) (eqb (x .run + 1) 64) _ _ (λ q. refl) (λ q. refl))
+
+  keeps : (lock : Lock) → lock .header .locked ≡ true → lockStep width period lock header ≡ record { header = headerStep width (lock .header) true; extended = extendedStep period (lock .extended) header }
+  unfolding lockStep
+  keeps lock l = simp (k, l, stays-locked (lock .header) l)
+
+-- ---- a run over such a lane
+
+later : (E p d : ℕ) (sync : ℕ → ℕ) → Crc12Sync E p sync → Crc12Sync E (d + p) (λ n. sync (d + n))
+later E p d sync w =
+    let z : (n : ℕ) → d + n + p ≡ n + (d + p) = λ n. omega arith in
+    record {
+      ones = λ n h. w .ones (d + n) (rw z h);
+      zeros = λ n h k. w .zeros (d + n) (rw z h) (rw z k);
+      lastMark = λ n h. w .lastMark (d + n) (rw z h);
+      otherMarks = λ n h k. w .otherMarks (d + n) (rw z h) (rw z k);
+    }
+
+module _ (mode E p : ℕ) (headers : ℕ → ℕ) (known : mode ≤ 1) (some : 1 ≤ E) (few : E ≤ 256) (lane : Crc12Headers E p headers) where
+  r : ℕ → Lock
+  r n = ran mode E headers n
+
+  values : (n : ℕ) → headers n ≤ 3
+  values n = sound-le (headers n) (lane .sound n)
+
+  good : (n : ℕ) → valid (headers n) ≡ true
+  good n = eq-eqb _ _ (lane .sound n)
+
+  next : (n : ℕ) → r (suc n) ≡ lockStep (widthOf mode) (32 * E) (r n) (headers n)
+  unfolding r
+  next n = ran-next mode E headers known some few values n
+
+  counting : (n : ℕ) → n ≤ 63 → r n ≡ withFresh (headerHunting 0 n)
+  unfolding r ran after run
+  counting zero h = refl
+  counting (suc n) h =
+      next n ∙ ap (λ (x : Lock). lockStep (widthOf mode) (32 * E) x (headers n)) (counting n (omega arith)) ∙ counts (widthOf mode) (32 * E) (headers n) (good n) n (omega arith)
+      ∙ ap (λ (k : ℕ). withFresh (headerHunting 0 k)) (add-one n)
+
+  gained : r 64 ≡ withFresh (headerLocked 0 0 0)
+  gained = next 63 ∙ ap (λ (x : Lock). lockStep (widthOf mode) (32 * E) x (headers 63)) (counting 63 (omega arith)) ∙ gains (widthOf mode) (32 * E) (headers 63) (good 63)
+
+  -- from there on
+  x : ℕ → ExtendedLock
+  x k = r (64 + k) .extended
+
+  start : x 0 ≡ freshExtended
+  unfolding x
+  start = ap (λ (y : Lock). y .extended) (ap r (add-zero 64) ∙ gained)
+
+  on : (k : ℕ) → r (64 + k) .header .locked ≡ true
+  on zero = ap (λ (y : Lock). y .header .locked) (ap r (add-zero 64) ∙ gained)
+  on (suc k) =
+      ap (λ (y : Lock). y .header .locked) (ap r (add-suc 64 k) ∙ next (64 + k) ∙ keeps (widthOf mode) (32 * E) (headers (64 + k)) (good (64 + k)) (r (64 + k)) (on k))
+      ∙ stays-locked (widthOf mode) (32 * E) (headers (64 + k)) (good (64 + k)) (r (64 + k) .header) (on k)
+
+  stepping : (k : ℕ) → x (suc k) ≡ extendedStep (32 * E) (x k) (headers (64 + k))
+  unfolding x
+  stepping k =
+      ap (λ (y : Lock). y .extended) (ap r (add-suc 64 k) ∙ next (64 + k) ∙ keeps (widthOf mode) (32 * E) (headers (64 + k)) (good (64 + k)) (r (64 + k)) (on k))
+
+  sync : ℕ → ℕ
+  sync n = carries (headers (64 + n))
+
+  seen : (k : ℕ) → Seen sync k (x k)
+  seen zero = rw start (seen-none sync)
+  seen (suc k) = rw stepping (seen-step sync k (32 * E) (headers (64 + k)) (x k) (unfold sync in refl) (seen k))
+
+  seen-with : (k : ℕ) → Seen sync (suc k) (withHeader (x k) (headers (64 + k)))
+  seen-with k = seen-more sync k (headers (64 + k)) (x k) (unfold sync in refl) (seen k)
+
+  stepping-by : (k : ℕ) (m : Bool) → matches (withHeader (x k) (headers (64 + k))) ≡ m → x (suc k) ≡ moved (32 * E) (withHeader (x k) (headers (64 + k))) m
+  unfolding extendedStep
+  stepping-by k m e = stepping k ∙ ap (moved (32 * E) (withHeader (x k) (headers (64 + k)))) e
+
+  -- too few to match
+  still : (k : ℕ) → k ≤ 31 → (y : ExtendedLock) × (x k ≡ hunting y)
+  still zero h = (freshExtended, start)
+  still (suc k) h =
+      let s = still k (omega arith) in
+      let y = withHeader (s .0) (headers (64 + k)) in (
+        y,
+        stepping-by k false (too-few (withHeader (x k) (headers (64 + k))) (omega (arith, seen-with k .few (omega arith))))
+            ∙ ap (λ (z : ExtendedLock). moved (32 * E) (withHeader z (headers (64 + k))) false) (s .1)
+            ∙ ap (λ (z : ExtendedLock). moved (32 * E) z false) (with-hunting (s .0) (headers (64 + k)))
+            ∙ hunts-on (32 * E) y,
+      )
+
+  fed : (k : ℕ) → 31 ≤ k → x (suc k) ≡ moved (32 * E) (withHeader (x k) (headers (64 + k))) (eqb ((k + (64 + p)) % (32 * E)) (32 * E - 1))
+  unfolding sync
+  fed k h =
+      stepping-by k _ (matches-at-ends E (64 + p) sync (later E p 64 (λ n. carries (headers n)) (lane .sync)) some k (withHeader (x k) (headers (64 + k))) h
+      (subst (λ (n : ℕ). Seen sync n (withHeader (x k) (headers (64 + k)))) (sym (one-add k)) (seen-with k)))
+
+  -- both locks are held after 95 + 128E blocks, and at every block after
+  pub locked-in-time : (n : ℕ) → 95 + 128 * E ≤ n → Held (ran mode E headers n)
+  unfolding r x
+  locked-in-time n h =
+      let z : 64 + (n - 64) ≡ n = omega arith in
+      let s = still 31 (omega arith) in
+      subst (λ (k : ℕ). Held (ran mode E headers k)) z
+      (record { header = on (n - 64); extended = follows (32 * E) (64 + p) 31 (omega arith) (λ k. headers (64 + k)) x (s .0) (s .1) fed (n - 64) (omega arith) })
+
+  pub lane-never-refused : (n : ℕ) → stepped mode E (ran mode E headers n) (headers n) .refusal ≡ 0
+  lane-never-refused n = never-refused mode E headers known some few values n

@@ -1,0 +1,55 @@
+-- Runs: a run over headers that follow each other is a run after a run, and a run of header values from fresh is never refused.
+-- Assumes nothing.
+use mathlib.Core.Path.{_≡_, refl, sym, ap, _∙_, subst}
+use mathlib.Core.List.{List, [], _∷_, _++_}
+use mathlib.Core.Bool.{true}
+use Prim.Native.Nat.{ℕ, zero, suc, _+_, _*_, _≤_}
+use native.Mathlib.Numerals.{add-one}
+use native.Mathlib.Nat.{zero-add}
+use native.Mathlib.Omega.{arith}
+use Rattle.bits.specs.Order.{run}
+use Rattle.bits.proofs.Runs.{run-append}
+use Rattle.lock.specs.Table.{fresh, lockStep}
+use Rattle.lock.specs.Accepted.{accepted, widthOf, stepped}
+use Rattle.lock.specs.Run.{after, ran}
+use Rattle.lock.specs.declared.Lock.{Lock}
+use Rattle.lock.specs.declared.Stepped.{Stepped}
+use Rattle.lock.proofs.Headers.{width-is}
+use Rattle.lock.proofs.Ranges.{accepted-step, accepted-fresh, Taken, stepped-taken}
+
+pub after-append : (mode E : ℕ) (lock : Lock) (a b : List ℕ) → after mode E lock (a ++ b) ≡ after mode E (after mode E lock a) b
+unfolding after
+after-append mode E lock [] b = refl
+after-append mode E lock (header ∷ a) b = after-append mode E (stepped mode E lock header .lock) a b
+
+module _ (mode E : ℕ) (headers : ℕ → ℕ) where
+  -- a run goes on from the state where it stands
+  pub ran-on : (n m : ℕ) → ran mode E headers (n + m) ≡ after mode E (ran mode E headers n) (run headers n m)
+  unfolding ran
+  ran-on n m =
+      ap (after mode E fresh) (run-append headers 0 n m) ∙ after-append mode E fresh (run headers 0 n) (run headers (0 + n) m)
+      ∙ ap (λ (k : ℕ). after mode E (ran mode E headers n) (run headers k m)) (zero-add n)
+
+  pub ran-suc : (n : ℕ) → ran mode E headers (suc n) ≡ stepped mode E (ran mode E headers n) (headers n) .lock
+  unfolding after run
+  ran-suc n = ap (ran mode E headers) (sym (add-one n)) ∙ ran-on n 1
+
+module _ (mode E : ℕ) (headers : ℕ → ℕ) (known : mode ≤ 1) (some : 1 ≤ E) (few : E ≤ 256) (values : (n : ℕ) → headers n ≤ 3) where
+  -- a run from fresh stays with accepted states
+  pub ran-accepted : (n : ℕ) → accepted (widthOf mode) (32 * E) (ran mode E headers n) ≡ true
+  unfolding ran after run
+  ran-accepted zero = accepted-fresh (widthOf mode) (32 * E) (omega (arith, width-is mode))
+  ran-accepted (suc n) =
+      let t : Taken mode E (ran mode E headers n) (headers n) = record { known = known; some = some; few = few; state = ran-accepted n; value = values n } in
+      subst (λ (x : Lock). accepted (widthOf mode) (32 * E) x ≡ true) (sym (ran-suc mode E headers n ∙ ap (λ (x : Stepped). x .lock) (stepped-taken t)))
+      (accepted-step (widthOf mode) (32 * E) (ran mode E headers n) (headers n) (omega arith) (ran-accepted n))
+
+  pub ran-taken : (n : ℕ) → Taken mode E (ran mode E headers n) (headers n)
+  ran-taken n = record { known = known; some = some; few = few; state = ran-accepted n; value = values n }
+
+  -- no step of it is refused
+  pub never-refused : (n : ℕ) → stepped mode E (ran mode E headers n) (headers n) .refusal ≡ 0
+  never-refused n = ap (λ (x : Stepped). x .refusal) (stepped-taken (ran-taken n))
+
+  pub ran-next : (n : ℕ) → ran mode E headers (suc n) ≡ lockStep (widthOf mode) (32 * E) (ran mode E headers n) (headers n)
+  ran-next n = ran-suc mode E headers n ∙ ap (λ (x : Stepped). x .lock) (stepped-taken (ran-taken n))
