@@ -1,25 +1,27 @@
 -- Octets laid over others: a word as eight octets, and octets that follow those laid before. Document 01, "From octets to lane bits".
 -- Assumes nothing.
 use mathlib.Core.Path.{_≡_, refl, sym, ap, ap₂, _∙_}
-use mathlib.Core.List.{List, [], _∷_, _++_}
+use mathlib.Core.List.{List, [], _∷_, _++_, append-assoc}
 use Prim.Native.Nat.{ℕ, suc, _+_, _-_, _*_, _/_, _%_, _^_, _≤_, _<_}
 use native.Mathlib.Nat.{zero-add, div-one}
+use native.Mathlib.Numerals.{add-one}
 use native.Mathlib.Omega.{arith}
 use lib.Dec.{leb, leb→le, le→leb, not-T, lit≤}
 use lib.ListN.{length, set, take, drop, length-append, length-drop}
-use lib.Seq.{sets-eq, take-at, drop-append-add, drop-drop}
+use lib.Seq.{append-snoc, set-split, sets-eq, length-take-le, take-at, drop-append-add, drop-drop}
+use lib.Pow.{shr-shr}
 use Rattle.bits.specs.Order.{run, number, digit, octetsOf, laid, laidAt}
 use Rattle.bits.proofs.Choice.{pick-true, pick-false}
 use Rattle.bits.proofs.Numbers.{number-digit, number-ext, digit-number}
 use Rattle.bits.proofs.Runs.{length-run, run-append, run-ext}
-
-pub length-octets : (f : ℕ → ℕ) (n : ℕ) → length (octetsOf f n) ≡ n
-unfolding octetsOf
-length-octets f n = length-run (λ j. number f (8 * j) 8) 0 n
+use Rattle.bits.proofs.Octets.{length-octetsOf}
 
 pub length-laid : (new old : List ℕ) → length new ≤ length old → length (laid new old) ≡ length old
 unfolding laid
 length-laid new old h = length-append new (drop (length new) old) ∙ omega (arith, length-drop (length new) old)
+
+pub length-laid-octets : (f : ℕ → ℕ) (n : ℕ) (old : List ℕ) → n ≤ length old → length (laid (octetsOf f n) old) ≡ length old
+length-laid-octets f n old h = length-laid (octetsOf f n) old (omega (arith, length-octetsOf f n))
 
 -- ---- where they fit, and where not
 
@@ -32,59 +34,106 @@ unfolding laidAt
 too-short new at old h =
     pick-false (leb (at + length new) (length old)) _ _ (not-T (leb (at + length new) (length old)) (λ t. let q = leb→le (at + length new) (length old) t in omega arith))
 
--- ---- a word
+-- ---- octets stored one by one
 
-word-octets : (word : ℕ)
-    → octetsOf (digit 64 word) 8
-    ≡ word / 2 ^ 56 % 256 ∷ word / 2 ^ 48 % 256 ∷ word / 2 ^ 40 % 256 ∷ word / 2 ^ 32 % 256 ∷ word / 2 ^ 24 % 256 ∷ word / 2 ^ 16 % 256 ∷ word / 2 ^ 8 % 256 ∷ word % 256 ∷ []
+half-octets : (word : ℕ) → octetsOf (digit 32 word) 4 ≡ word / 2 ^ 24 % 256 ∷ word / 2 ^ 16 % 256 ∷ word / 2 ^ 8 % 256 ∷ word % 256 ∷ []
 unfolding octetsOf run
-word-octets word =
-    rw (number-digit 64 word 0 8 (lit≤ tt), number-digit 64 word 8 8 (lit≤ tt), number-digit 64 word 16 8 (lit≤ tt), number-digit 64 word 24 8 (lit≤ tt), number-digit 64 word 32 8 (lit≤ tt), number-digit 64 word 40 8 (lit≤ tt), number-digit 64 word 48 8 (lit≤ tt), number-digit 64 word 56 8 (lit≤ tt), div-one)
+half-octets word =
+    rw (number-digit 32 word 0 8 (lit≤ tt), number-digit 32 word 8 8 (lit≤ tt), number-digit 32 word 16 8 (lit≤ tt), number-digit 32 word 24 8 (lit≤ tt), div-one)
 
--- the whole store, as the code writes it out
-pub store : (old : List ℕ) (at word : ℕ) → at + 8 ≤ length old
-    → set (set (set (set (set (set (set (set old at (word / 2 ^ 56 % 256)) (at + 1) (word / 2 ^ 48 % 256)) (at + 2) (word / 2 ^ 40 % 256)) (at + 3) (word / 2 ^ 32 % 256)) (at + 4) (word / 2 ^ 24 % 256)) (at + 5) (word / 2 ^ 16 % 256)) (at + 6) (word / 2 ^ 8 % 256)) (at + 7) (word % 256)
-    ≡ laidAt (octetsOf (digit 64 word) 8) at old
-store old at word h =
+-- four octets, as the code writes them out
+pub store-half : (old : List ℕ) (at word : ℕ) → at + 4 ≤ length old
+    → set (set (set (set old at (word / 2 ^ 24 % 256)) (at + 1) (word / 2 ^ 16 % 256)) (at + 2) (word / 2 ^ 8 % 256)) (at + 3) (word % 256)
+    ≡ laidAt (octetsOf (digit 32 word) 4) at old
+store-half old at word h =
     let e1 : at + 1 ≡ suc at = omega arith in
     let e2 : at + 2 ≡ suc (suc at) = omega arith in
     let e3 : at + 3 ≡ suc (suc (suc at)) = omega arith in
-    let e4 : at + 4 ≡ suc (suc (suc (suc at))) = omega arith in
-    let e5 : at + 5 ≡ suc (suc (suc (suc (suc at)))) = omega arith in
-    let e6 : at + 6 ≡ suc (suc (suc (suc (suc (suc at))))) = omega arith in
-    let e7 : at + 7 ≡ suc (suc (suc (suc (suc (suc (suc at)))))) = omega arith in
-    rw (e1, e2, e3, e4, e5, e6, e7)
-    (sets-eq (word / 2 ^ 56 % 256 ∷ word / 2 ^ 48 % 256 ∷ word / 2 ^ 40 % 256 ∷ word / 2 ^ 32 % 256 ∷ word / 2 ^ 24 % 256 ∷ word / 2 ^ 16 % 256 ∷ word / 2 ^ 8 % 256 ∷ word % 256 ∷ []) old at h
-    ∙ sym (ap (λ (x : List ℕ). laidAt x at old) (word-octets word) ∙ fits _ at old h))
+    rw (e1, e2, e3)
+    (sets-eq (word / 2 ^ 24 % 256 ∷ word / 2 ^ 16 % 256 ∷ word / 2 ^ 8 % 256 ∷ word % 256 ∷ []) old at h
+    ∙ sym (ap (λ (x : List ℕ). laidAt x at old) (half-octets word) ∙ fits _ at old h))
 
--- ---- octets that follow
+-- one octet stored
+pub laid-octet : (at octet : ℕ) (old : List ℕ) → at < length old → set old at octet ≡ laidAt (octet ∷ []) at old
+laid-octet at octet old h =
+    set-split old at octet h ∙ sym (fits (octet ∷ []) at old (omega arith) ∙ append-snoc (take at old) octet (drop (at + 1) old) ∙ ap (λ (x : ℕ). take at old ++ octet ∷ drop x old) (add-one at))
 
--- the next n octets of a stream, laid behind its first a
-pub laid-more : (f : ℕ → ℕ) (a n : ℕ) (new old : List ℕ) → a + n ≤ length old → new ≡ run (λ j. number f (8 * j) 8) a n
-    → laidAt new a (laid (octetsOf f a) old) ≡ laid (octetsOf f (a + n)) old
-unfolding laid octetsOf
-laid-more f a n new old h e =
-    let front = run (λ j. number f (8 * j) 8) 0 a in
-    let rest = drop (length front) old in
-    let lf : length front ≡ a = length-run (λ j. number f (8 * j) 8) 0 a in
-    let ln : length new ≡ n = ap length e ∙ length-run (λ j. number f (8 * j) 8) a n in
-    let ll : length (front ++ rest) ≡ length old = length-append front rest ∙ omega (arith, length-drop (length front) old) in
-    let joined : run (λ j. number f (8 * j) 8) 0 (a + n) ≡ front ++ new = run-append (λ j. number f (8 * j) 8) 0 a n ∙ ap (λ (x : List ℕ). front ++ x) (ap (λ (x : ℕ). run (λ j. number f (8 * j) 8) x n) (zero-add a) ∙ sym e) in
-    fits new a (front ++ rest) (omega arith)
-    ∙ ap₂ (λ (x y : List ℕ). x ++ new ++ y) (take-at front rest a lf) (ap (λ (x : ℕ). drop (x + length new) (front ++ rest)) (sym lf) ∙ drop-append-add front rest (length new) ∙ drop-drop (length new) (length front) old)
-    ∙ sym (ap (λ (x : List ℕ). x ++ drop (length x) old) joined ∙ ap (λ (x : ℕ). front ++ new ++ drop x old) (length-append front new))
+-- ---- one list after another
 
--- its next word
-pub laid-word : (f : ℕ → ℕ) → ((k : ℕ) → f k < 2) → (i word : ℕ) (old : List ℕ) → 8 * i + 8 ≤ length old → word ≡ number f (64 * i) 64
-    → laidAt (octetsOf (digit 64 word) 8) (8 * i) (laid (octetsOf f (8 * i)) old) ≡ laid (octetsOf f (8 * (i + 1))) old
-laid-word f d i word old h e =
-    laid-more f (8 * i) 8 (octetsOf (digit 64 word) 8) old h (unfold octetsOf in (run-ext (λ j. number (digit 64 word) (8 * j) 8) (λ j. number f (8 * j) 8) 0 (8 * i) 8 same))
-    ∙ ap (λ (x : ℕ). laid (octetsOf f x) old) {x = 8 * i + 8} {y = 8 * (i + 1)} (omega arith)
-  where
-    same : (j : ℕ) → j < 8 → number (digit 64 word) (8 * (0 + j)) 8 ≡ number f (8 * (8 * i + j)) 8
-    same j q =
-        number-ext (digit 64 word) f (8 * (0 + j)) (8 * (8 * i + j)) 8
-        (λ k l. ap (λ (x : ℕ). digit 64 x (8 * (0 + j) + k)) e ∙ digit-number f d (64 * i) 64 (8 * (0 + j) + k) (omega arith) ∙ ap f {x = 64 * i + (8 * (0 + j) + k)} {y = 8 * (8 * i + j) + k} (omega arith))
+-- a list laid behind another that was laid
+laidAt-join : (a b : List ℕ) (at : ℕ) (old : List ℕ) → at + length a + length b ≤ length old → laidAt b (at + length a) (laidAt a at old) ≡ laidAt (a ++ b) at old
+laidAt-join a b at old h =
+    let front = take at old ++ a in
+    let rest = drop (at + length a) old in
+    let lf : length front ≡ at + length a = length-append (take at old) a ∙ omega (arith, length-take-le at old (omega arith)) in
+    let ll : length (front ++ rest) ≡ length old = length-append front rest ∙ omega (arith, length-drop (at + length a) old) in
+    ap (laidAt b (at + length a)) (fits a at old (omega arith))
+    ∙ fits b (at + length a) (front ++ rest) (omega arith)
+    ∙ ap₂ (λ (x y : List ℕ). x ++ b ++ y) (take-at front rest (at + length a) lf) (ap (λ (x : ℕ). drop (x + length b) (front ++ rest)) (sym lf) ∙ drop-append-add front rest (length b) ∙ drop-drop (length b) (at + length a) old)
+    ∙ sym (fits (a ++ b) at old (omega (arith, length-append a b)) ∙ ap (λ (x : ℕ). take at old ++ (a ++ b) ++ drop x old) {x = at + length (a ++ b)} {y = at + length a + length b} (omega (arith, length-append a b)) ∙ simp append-assoc)
+
+-- a word's halves are the word
+halves : (word : ℕ) → octetsOf (digit 32 (word / 2 ^ 32)) 4 ++ octetsOf (digit 32 word) 4 ≡ octetsOf (digit 64 word) 8
+unfolding octetsOf digit
+halves word =
+    let upper = run-ext (λ j. number (digit 32 (word / 2 ^ 32)) (8 * j) 8) (λ j. number (digit 64 word) (8 * j) 8) 0 0 4
+    (λ j q. number-ext (digit 32 (word / 2 ^ 32)) (digit 64 word) (8 * (0 + j)) (8 * (0 + j)) 8
+    (λ k l. ap (λ (x : ℕ). x % 2) (shr-shr word 32 (31 - (8 * (0 + j) + k)) ∙ ap (λ (x : ℕ). word / 2 ^ x) {x = 32 + (31 - (8 * (0 + j) + k))} {y = 63 - (8 * (0 + j) + k)} (omega arith)))) in
+    let lower = run-ext (λ j. number (digit 32 word) (8 * j) 8) (λ j. number (digit 64 word) (8 * j) 8) 0 4 4
+    (λ j q. number-ext (digit 32 word) (digit 64 word) (8 * (0 + j)) (8 * (4 + j)) 8 (λ k l. ap (λ (x : ℕ). word / 2 ^ x % 2) {x = 31 - (8 * (0 + j) + k)} {y = 63 - (8 * (4 + j) + k)} (omega arith))) in
+    ap₂ (λ (x y : List ℕ). x ++ y) upper lower ∙ sym (run-append (λ j. number (digit 64 word) (8 * j) 8) 0 4 4)
+
+pub store : (word at : ℕ) (old : List ℕ) → at + 8 ≤ length old → laidAt (octetsOf (digit 32 word) 4) (at + 4) (laidAt (octetsOf (digit 32 (word / 2 ^ 32)) 4) at old) ≡ laidAt (octetsOf (digit 64 word) 8) at old
+store word at old h =
+    let upper = octetsOf (digit 32 (word / 2 ^ 32)) 4 in
+    let lower = octetsOf (digit 32 word) 4 in
+    let lu = length-octetsOf (digit 32 (word / 2 ^ 32)) 4 in
+    let ll = length-octetsOf (digit 32 word) 4 in
+    ap (λ (x : ℕ). laidAt lower (at + x) (laidAt upper at old)) (sym lu) ∙ laidAt-join upper lower at old (omega arith) ∙ ap (λ (x : List ℕ). laidAt x at old) (halves word)
+
+-- what is laid from the start
+laid-start : (new old : List ℕ) → length new ≤ length old → laidAt new 0 old ≡ laid new old
+unfolding laid
+laid-start new old h = fits new 0 old (omega arith) ∙ ap (λ (x : ℕ). new ++ drop x old) (zero-add (length new))
+
+module _ (f : ℕ → ℕ) where
+  -- n octets of a stream, from octet k on
+  abbrev pub octetsFrom : ℕ → ℕ → List ℕ
+  octetsFrom k n = run (λ j. number f (8 * j) 8) k n
+
+  -- the next m octets of a stream, laid behind n that were laid from a place on
+  pub laid-next : (at n m place : ℕ) (new old : List ℕ) → place ≡ at + n → place + m ≤ length old → new ≡ octetsFrom place m
+      → laidAt new place (laidAt (octetsFrom at n) at old) ≡ laidAt (octetsFrom at (n + m)) at old
+  laid-next at n m place new old p h e =
+      let ln = length-run (λ j. number f (8 * j) 8) at n in
+      let lm : length new ≡ m = ap length e ∙ length-run (λ j. number f (8 * j) 8) place m in
+      ap (λ (x : ℕ). laidAt new x (laidAt (octetsFrom at n) at old)) {x = place} {y = at + length (octetsFrom at n)} (omega arith)
+      ∙ laidAt-join (octetsFrom at n) new at old (omega arith)
+      ∙ ap (λ (x : List ℕ). laidAt x at old) (ap (λ (x : List ℕ). octetsFrom at n ++ x) (e ∙ ap (λ (x : ℕ). octetsFrom x m) p) ∙ sym (run-append (λ j. number f (8 * j) 8) at n m))
+
+  -- the same behind its first a
+  pub laid-more : (a n : ℕ) (new old : List ℕ) → a + n ≤ length old → new ≡ octetsFrom a n → laidAt new a (laid (octetsOf f a) old) ≡ laid (octetsOf f (a + n)) old
+  unfolding octetsOf
+  laid-more a n new old h e =
+      ap (laidAt new a) (sym (laid-start (octetsFrom 0 a) old (omega (arith, length-run (λ j. number f (8 * j) 8) 0 a))))
+      ∙ laid-next 0 a n a new old (sym (zero-add a)) h e
+      ∙ laid-start (octetsFrom 0 (a + n)) old (omega (arith, length-run (λ j. number f (8 * j) 8) 0 (a + n)))
+
+  module _ (d : (k : ℕ) → f k < 2) where
+    -- the octets of a word of its bits
+    pub word-from : (place word : ℕ) → word ≡ number f (8 * place) 64 → octetsOf (digit 64 word) 8 ≡ octetsFrom place 8
+    unfolding octetsOf
+    word-from place word e =
+        run-ext (λ j. number (digit 64 word) (8 * j) 8) (λ j. number f (8 * j) 8) 0 place 8
+        (λ j q. number-ext (digit 64 word) f (8 * (0 + j)) (8 * (place + j)) 8
+        (λ k l. ap (λ (x : ℕ). digit 64 x (8 * (0 + j) + k)) e ∙ digit-number f d (8 * place) 64 (8 * (0 + j) + k) (omega arith) ∙ ap f {x = 8 * place + (8 * (0 + j) + k)} {y = 8 * (place + j) + k} (omega arith)))
+
+    -- its next word
+    pub laid-word : (i word : ℕ) (old : List ℕ) → 8 * i + 8 ≤ length old → word ≡ number f (64 * i) 64
+        → laidAt (octetsOf (digit 64 word) 8) (8 * i) (laid (octetsOf f (8 * i)) old) ≡ laid (octetsOf f (8 * (i + 1))) old
+    laid-word i word old h e =
+        laid-more (8 * i) 8 (octetsOf (digit 64 word) 8) old h (word-from (8 * i) word (e ∙ ap (λ (x : ℕ). number f x 64) (omega arith)))
+        ∙ ap (λ (x : ℕ). laid (octetsOf f x) old) {x = 8 * i + 8} {y = 8 * (i + 1)} (omega arith)
 
 -- nothing laid
 pub laid-none : (f : ℕ → ℕ) (old : List ℕ) → old ≡ laid (octetsOf f 0) old

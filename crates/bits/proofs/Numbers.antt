@@ -2,7 +2,7 @@
 use mathlib.Core.Path.{_≡_, refl, sym, ap, ap₂, _∙_, subst}
 use mathlib.Core.List.{List}
 use Prim.Native.Nat.{ℕ, zero, suc, _+_, _-_, _*_, _/_, _%_, _^_, _≤_, _<_}
-use native.Mathlib.Nat.{add-zero, add-suc, add-assoc, mul-one, pow-suc, pow-zero, mul-assoc, add-mul, mod-lt, mod-one, zero-div, zero-lt-suc}
+use native.Mathlib.Nat.{add-zero, add-suc, add-assoc, mul-one, pow-suc, pow-zero, mul-assoc, add-mul, mod-lt, mod-eq-of-lt, mod-one, div-one, zero-div, zero-lt-suc}
 use native.Mathlib.Numerals.{add-one, one-add}
 use native.Mathlib.Omega.{arith}
 use lib.ListN.{length, getD, List·getD-eq-default}
@@ -62,13 +62,24 @@ unfolding number
 number-ext f g k l zero h = refl
 number-ext f g k l (suc n) h = ap₂ (λ (x y : ℕ). x * 2 + y) (number-ext f g k l n (λ j q. h j (omega arith))) (h n (omega arith))
 
--- the digits of a number v of n digits, most significant first: the first w of them make its upper part
-pub number-digits : (v n w m : ℕ) → n ≡ w + m → number (λ j. v / 2 ^ (n - 1 - j) % 2) 0 w ≡ v / 2 ^ m % 2 ^ w
-unfolding number
-number-digits v n zero m e = sym (mod-one _)
-number-digits v n (suc w) m e =
-    ap₂ (λ (x y : ℕ). x * 2 + v / 2 ^ y % 2) (number-digits v n w (suc m) (omega arith) ∙ ap (λ (x : ℕ). x % 2 ^ w) (sym (shr-shr v m 1 ∙ ap (λ (x : ℕ). v / 2 ^ x) (add-one m)))) (omega arith)
-    ∙ sym (ap (λ (x : ℕ). v / 2 ^ m % 2 ^ x) (sym (add-one w)) ∙ mod-pow-add (v / 2 ^ m) w 1)
+-- w of the digits from digit k on are a field of the number
+pub number-digit : (n v k w : ℕ) → k + w ≤ n → number (digit n v) k w ≡ v / 2 ^ (n - k - w) % 2 ^ w
+unfolding number digit
+number-digit n v k zero h = sym (mod-one _)
+number-digit n v k (suc w) h =
+    let r = n - k - suc w in
+    ap₂ (λ (x y : ℕ). x * 2 + v / 2 ^ y % 2)
+    (number-digit n v k w (omega arith) ∙ ap (λ (x : ℕ). v / 2 ^ x % 2 ^ w) {x = n - k - w} {y = r + 1} (omega arith) ∙ ap (λ (x : ℕ). x % 2 ^ w) (sym (shr-shr v r 1)))
+    (omega arith)
+    ∙ sym (ap (λ (x : ℕ). v / 2 ^ r % 2 ^ x) (sym (add-one w)) ∙ mod-pow-add (v / 2 ^ r) w 1)
+
+-- and all of them the number
+pub number-whole : (n v : ℕ) → number (λ j. v / 2 ^ (n - 1 - j) % 2) 0 n ≡ v % 2 ^ n
+unfolding digit
+number-whole n v =
+    number-digit n v 0 n (omega arith)
+    ∙ ap (λ (x : ℕ). v / 2 ^ x % 2 ^ n) {x = n - 0 - n} {y = 0} (omega arith)
+    ∙ ap (λ (x : ℕ). x % 2 ^ n) (div-one v)
 
 -- the low bits of a number have its low digits
 pub low-digit : (v w k : ℕ) → k < w → v % 2 ^ w / 2 ^ k % 2 ≡ v / 2 ^ k % 2
@@ -87,13 +98,6 @@ number-xor f g d e k (suc n) =
     ap (λ (x : ℕ). x * 2 + bitXor (f (k + n)) (g (k + n))) (number-xor f g d e k n)
     ∙ sym (xor-digit (number f k n) (number g k n) (f (k + n)) (g (k + n)) (d (k + n)) (e (k + n)))
 
--- w of the digits from digit k on are a field of the number
-pub number-digit : (n v k w : ℕ) → k + w ≤ n → number (digit n v) k w ≡ v / 2 ^ (n - k - w) % 2 ^ w
-unfolding digit
-number-digit n v k w h =
-    number-ext (λ j. v / 2 ^ (n - 1 - j) % 2) (λ j. v / 2 ^ (n - k - 1 - j) % 2) k 0 w (λ j q. ap (λ (x : ℕ). v / 2 ^ x % 2) {x = n - 1 - (k + j)} {y = n - k - 1 - (0 + j)} (omega arith))
-    ∙ number-digits v (n - k) w (n - k - w) (omega arith)
-
 -- ---- octets
 
 -- the bits of octet i
@@ -105,8 +109,8 @@ bit-octet octets i j h = ap₂ (λ (x y : ℕ). getD octets x 0 / 2 ^ (7 - y) % 
 pub number-octet : (octets : List ℕ) (i : ℕ) → getD octets i 0 < 256 → number (bitAt octets) (8 * i) 8 ≡ getD octets i 0
 number-octet octets i h =
     number-ext (bitAt octets) (λ j. getD octets i 0 / 2 ^ (8 - 1 - j) % 2) (8 * i) 0 8 (λ j q. bit-octet octets i j q ∙ ap (λ (x : ℕ). getD octets i 0 / 2 ^ x % 2) (omega arith))
-    ∙ number-digits (getD octets i 0) 8 8 0 refl
-    ∙ omega arith
+    ∙ number-whole 8 (getD octets i 0)
+    ∙ mod-eq-of-lt h
 
 -- eight bits more
 pub number-next : (octets : List ℕ) (i n : ℕ) → getD octets (i + n) 0 < 256

@@ -1,51 +1,14 @@
 -- Octets made of a stream's bits have those bits, and octets made of their own bits are themselves. Assumes nothing.
 use mathlib.Core.Path.{_≡_, sym, ap, ap₂, _∙_}
 use mathlib.Core.List.{List}
-use Prim.Native.Nat.{ℕ, zero, suc, _+_, _-_, _*_, _/_, _%_, _^_, _≤_, _<_}
-use native.Mathlib.Nat.{mod-one, zero-add}
-use native.Mathlib.Numerals.{add-one}
+use Prim.Native.Nat.{ℕ, _+_, _-_, _*_, _/_, _%_, _^_, _≤_, _<_}
+use native.Mathlib.Nat.{zero-add}
 use native.Mathlib.Omega.{arith}
 use lib.ListN.{length, getD, take, drop}
 use lib.Seq.{getD-take, getD-drop, length-take-le, ext-getD}
-use lib.Pow.{high, low, shr-shr, mod-pow-add}
 use Rattle.bits.specs.Order.{bitAt, number, digit, octetsOf}
-use Rattle.bits.proofs.Numbers.{number-split, number-lt, number-ext, number-octet, bit-octet}
+use Rattle.bits.proofs.Numbers.{digit-number, number-ext, number-octet, bit-octet}
 use Rattle.bits.proofs.Runs.{run-ext, length-run, getD-run}
-
--- ---- bits of a number
-
--- w bits of a stream, t bits into a longer run, with r bits after them
-module _ (f : ℕ → ℕ) (bits : (k : ℕ) → f k < 2) where
-  number-inside : (k t w r : ℕ) → number f k (t + w + r) / 2 ^ r % 2 ^ w ≡ number f (k + t) w
-  number-inside k t w r =
-      ap (λ (x : ℕ). x / 2 ^ r % 2 ^ w) (number-split f k (t + w) r)
-      ∙ ap (λ (x : ℕ). x % 2 ^ w) (high (number f k (t + w)) r (number-lt f bits (k + (t + w)) r))
-      ∙ ap (λ (x : ℕ). x % 2 ^ w) (number-split f k t w)
-      ∙ low (number f k t) w (number-lt f bits (k + t) w)
-
-  number-one : (k : ℕ) → number f k 1 ≡ f k
-  unfolding number
-  number-one k = let e : f (k + 0) ≡ f k = ap f (omega arith) in omega arith
-
-  -- the digits of the number that a run writes are the run's bits
-  pub digit-number : (k n j : ℕ) → j < n → digit n (number f k n) j ≡ f (k + j)
-  unfolding digit
-  digit-number k n j h =
-      ap (λ (x : ℕ). number f k x / 2 ^ (n - 1 - j) % 2) {x = n} {y = j + 1 + (n - 1 - j)} (omega arith)
-      ∙ number-inside k j 1 (n - 1 - j)
-      ∙ number-one (k + j)
-
-pub digit-lt : (n v j : ℕ) → digit n v j < 2
-unfolding digit
-digit-lt n v j = omega arith
-
--- w digits of a number, k digits into its n, with r digits after them
-pub number-digit : (n v k w r : ℕ) → k + w + r ≡ n → number (digit n v) k w ≡ v / 2 ^ r % 2 ^ w
-unfolding number digit
-number-digit n v k zero r e = sym (mod-one _)
-number-digit n v k (suc w) r e =
-    ap₂ (λ (x y : ℕ). x * 2 + v / 2 ^ y % 2) (number-digit n v k w (suc r) (omega arith) ∙ ap (λ (x : ℕ). x % 2 ^ w) (sym (shr-shr v r 1 ∙ ap (λ (x : ℕ). v / 2 ^ x) (add-one r)))) (omega arith)
-    ∙ sym (ap (λ (x : ℕ). v / 2 ^ r % 2 ^ x) (sym (add-one w)) ∙ mod-pow-add (v / 2 ^ r) w 1)
 
 -- ---- octets of a stream
 

@@ -10,19 +10,23 @@ fn wide(octet: u8) -> u64
     octet as u64
 }
 
+// Four octets that are there.
+fn half_word(octets: &[u8], at: usize) -> u64
+    requires { ⌜ at + 4 ≤ length (now octets) ⌝ }
+    ensures { λ r. ⌜ r ≡ number (bitAt (now (octets .entry))) (8 * at) 32 ⌝ }
+{
+    (wide(octets[at]) << 24)
+        | (wide(octets[at + 1]) << 16)
+        | (wide(octets[at + 2]) << 8)
+        | wide(octets[at + 3])
+}
+
 // Eight octets that are there, as one load.
 fn whole_word(octets: &[u8], at: usize) -> u64
     requires { ⌜ at + 8 ≤ length (now octets) ⌝ }
     ensures { λ r. ⌜ r ≡ number (bitAt (now (octets .entry))) (8 * at) 64 ⌝ }
 {
-    (wide(octets[at]) << 56)
-        | (wide(octets[at + 1]) << 48)
-        | (wide(octets[at + 2]) << 40)
-        | (wide(octets[at + 3]) << 32)
-        | (wide(octets[at + 4]) << 24)
-        | (wide(octets[at + 5]) << 16)
-        | (wide(octets[at + 6]) << 8)
-        | wide(octets[at + 7])
+    (half_word(octets, at) << 32) | half_word(octets, at + 4)
 }
 
 // The octet at a place; 0 past the end.
@@ -59,19 +63,24 @@ pub fn word_at(octets: &[u8], at: usize) -> u64
     last_word(octets, at)
 }
 
+// The 32 low bits of a word over four octets that are there.
+fn put_half(out: &mut [u8], at: usize, word: u64)
+    requires { ⌜ at + 4 ≤ length (now out) ⌝ }
+    ensures { λ _. ⌜ now (out .exit) ≡ laidAt (octetsOf (digit 32 word) 4) at (now (out .entry)) ⌝ }
+{
+    out[at] = ((word >> 24) % 256) as u8;
+    out[at + 1] = ((word >> 16) % 256) as u8;
+    out[at + 2] = ((word >> 8) % 256) as u8;
+    out[at + 3] = (word % 256) as u8;
+}
+
 // Eight octets that are there, as one store.
 fn put_whole(out: &mut [u8], at: usize, word: u64)
     requires { ⌜ at + 8 ≤ length (now out) ⌝ }
     ensures { λ _. ⌜ now (out .exit) ≡ laidAt (octetsOf (digit 64 word) 8) at (now (out .entry)) ⌝ }
 {
-    out[at] = ((word >> 56) % 256) as u8;
-    out[at + 1] = ((word >> 48) % 256) as u8;
-    out[at + 2] = ((word >> 40) % 256) as u8;
-    out[at + 3] = ((word >> 32) % 256) as u8;
-    out[at + 4] = ((word >> 24) % 256) as u8;
-    out[at + 5] = ((word >> 16) % 256) as u8;
-    out[at + 6] = ((word >> 8) % 256) as u8;
-    out[at + 7] = (word % 256) as u8;
+    put_half(out, at, word >> 32);
+    put_half(out, at + 4, word);
 }
 
 // The 64 bits of a word as eight octets, from octet `at` on; nothing where they do not fit.

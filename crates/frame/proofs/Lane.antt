@@ -12,8 +12,8 @@ use lib.ListN.{length, getD, take}
 use Rattle.bits.specs.Choice.{pick}
 use Rattle.bits.specs.Order.{bitAt, digit}
 use Rattle.bits.proofs.Xor.{bit-cases}
-use Rattle.bits.proofs.Numbers.{bitAt-lt}
-use Rattle.bits.proofs.Octets.{digit-lt, bit-octetsOf, octetsOf-ext, octetsOf-bits}
+use Rattle.bits.proofs.Numbers.{bitAt-lt, digit-lt}
+use Rattle.bits.proofs.Octets.{bit-octetsOf, octetsOf-ext, octetsOf-bits}
 use Rattle.frame.specs.Headers.{value, carries, spoilt, headerOf}
 use Rattle.frame.specs.Lane.{blockWidth, laneOctets, headerPlace, dataPlace, dataBit, headerAt, syncBit, spoiltBit, dataOctets, blockBit, multiblockBit, multiblock}
 
@@ -83,6 +83,10 @@ block-data gap b block r =
     ∙ ap block (omega arith)
 
 -- ---- what is read are bits
+
+pub dataBit-lt : (gap : ℕ) (lane : ℕ → ℕ) → ((k : ℕ) → lane k < 2) → (m q : ℕ) → dataBit gap lane m q < 2
+unfolding dataBit
+dataBit-lt gap lane bits m q = bits (dataPlace gap m q)
 
 pub syncBit-lt : (gap : ℕ) (lane : ℕ → ℕ) (m t : ℕ) → syncBit gap lane m t < 2
 unfolding syncBit carries

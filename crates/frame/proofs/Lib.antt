@@ -5,6 +5,5 @@ pub mod Dozen
 pub mod Scrambling
 pub mod Blocks
 pub mod Lane
-pub mod Filled
 pub mod Packing
 pub mod Parts

@@ -1,5 +1,5 @@
 -- Headers and data of 66-bit blocks gathered and laid down by shifts, across octet edges: clauses 7.1.2 and 7.2.2. Assumes nothing.
-use mathlib.Core.List.{List}
+use mathlib.Core.List.{List, [], _∷_}
 use mathlib.Core.Path.{_≡_, refl, sym, ap, ap₂, _∙_, subst}
 use Prim.Native.Nat.{ℕ, _+_, _-_, _*_, _/_, _%_, _^_, _≤_, _<_}
 use native.Mathlib.Nat.{add-zero, zero-add, add-mul, mul-assoc, mul-mod-left}
@@ -9,13 +9,11 @@ use lib.Bits.{bitAnd, bitOr, and-mask, or-shifted}
 use lib.Dec.{lit≤}
 use lib.ListN.{length, getD, set}
 use lib.Pow.{pow-add, high, low, mod-pow-add, shl-exact, shl-lt, shl-shr}
-use Rattle.bits.specs.Order.{bitAt, digit, number}
-use Rattle.bits.proofs.Numbers.{bitAt-lt, number-split, number-lt, number-ext, number-octet}
-use Rattle.bits.proofs.Octets.{digit-number, number-digit}
+use Rattle.bits.specs.Order.{bitAt, run, digit, number, octetsOf, laid, laidAt}
+use Rattle.bits.proofs.Numbers.{bitAt-lt, number-split, number-lt, number-ext, number-octet, digit-number, number-digit}
+use Rattle.bits.proofs.Laid.{octetsFrom, word-from, laid-next, laid-more, laid-octet}
 use Rattle.frame.specs.Headers.{value, carries, spoilt, headerOf}
 use Rattle.frame.specs.Lane.{blockWidth, headerPlace, dataPlace, headerAt, syncBit, spoiltBit, dataBit, blockBit, multiblockBit}
-use Rattle.frame.specs.Filled.{Filled}
-use Rattle.frame.proofs.Filled.{filled-join, filled-set, filled-to, filled-word, placed}
 use Rattle.frame.proofs.Lane.{syncBit-lt, spoiltBit-lt, multiblockBit-lt, multiblock-at, block-data}
 
 -- a shift left drops what leaves the word
@@ -100,7 +98,7 @@ word-and-octet octets at t k word octet ew eo h ek ht =
 
 -- word >> (62 - t) & 3: two bits that stand t bits into a word
 pub two-bits : (word t : ℕ) → t ≤ 62 → bitAnd (word / 2 ^ (62 - t)) 3 ≡ number (digit 64 word) t 2
-two-bits word t h = and-mask (word / 2 ^ (62 - t)) 2 ∙ sym (number-digit 64 word t 2 (62 - t) (omega arith))
+two-bits word t h = and-mask (word / 2 ^ (62 - t)) 2 ∙ sym (number-digit 64 word t 2 (omega arith) ∙ ap (λ (x : ℕ). word / 2 ^ x % 4) {x = 64 - t - 2} {y = 62 - t} (omega arith))
 
 -- the bits of block b, as the lane's definitions have them
 pub header-read : (f : ℕ → ℕ) → ((k : ℕ) → f k < 2) → (b at word header : ℕ) → at ≡ 66 * b / 8 → word ≡ number f (8 * at) 64 → header ≡ number (digit 64 word) (66 * b % 8) 2
@@ -116,7 +114,7 @@ pub data-read : (f : ℕ → ℕ) (b : ℕ) → number f (66 * b + 2) 64 ≡ num
 unfolding dataBit dataPlace headerPlace blockWidth
 data-read f b = number-ext f (λ q. f (66 * (32 * 0 + q / 64) + 2 + q % 64 + 0 * (q % 64 / 8))) (66 * b + 2) (64 * b) 64 (λ j h. ap f (omega arith))
 
--- the headers and data of the first blocks, and of one block more
+-- the headers of the first blocks, and of one block more
 module _ (lane : ℕ → ℕ) (b header : ℕ) (h : b < 32) (eh : header ≡ headerAt 0 lane 0 b) where
   pub sync-more : (word bit : ℕ) → word ≡ number (syncBit 0 lane 0) 0 b → bit ≡ carries header → bitOr (word * 2 ^ 1 % 2 ^ 32) bit ≡ number (syncBit 0 lane 0) 0 (b + 1)
   unfolding syncBit
@@ -125,12 +123,6 @@ module _ (lane : ℕ → ℕ) (b header : ℕ) (h : b < 32) (eh : header ≡ hea
   pub spoilt-more : (word bit : ℕ) → word ≡ number (spoiltBit 0 lane 0) 0 b → bit ≡ spoilt header → bitOr (word * 2 ^ 1 % 2 ^ 32) bit ≡ number (spoiltBit 0 lane 0) 0 (b + 1)
   unfolding spoiltBit
   spoilt-more word bit ew eb = bit-more (spoiltBit 0 lane 0) (spoiltBit-lt 0 lane 0) 0 b word bit h ew (eb ∙ ap spoilt (eh ∙ ap (headerAt 0 lane 0) (sym (zero-add b))))
-
-pub data-more : (lane : ℕ → ℕ) → ((k : ℕ) → lane k < 2) → (b word : ℕ) {o m o′ : List ℕ} → Filled (dataBit 0 lane 0) o m 0 (8 * b) → Filled (placed word (8 * b)) m o′ (8 * b) (8 * b + 8)
-    → word ≡ number lane (66 * b + 2) 64 → Filled (dataBit 0 lane 0) o o′ 0 (8 * (b + 1))
-unfolding dataBit
-data-more lane bits b word p q e =
-    filled-to (filled-join p (filled-word (dataBit 0 lane 0) (λ k. bits (dataPlace 0 0 k)) q (e ∙ data-read lane b ∙ ap (λ (x : ℕ). number (dataBit 0 lane 0) x 64) {x = 64 * b} {y = 8 * (8 * b)} (omega arith))) refl (omega arith) (omega arith)) (omega arith)
 
 -- ---- writing
 
@@ -182,27 +174,47 @@ module _ (sync : ℕ) (octets : List ℕ) where
       ∙ ap (λ (x : ℕ). number f (8 * at) (s + 2) * 2 ^ x) {x = 62 - s} {y = 64 - (s + 2)} (omega arith))
       (data-is b given block eg eb ∙ ap (λ (x : ℕ). number f x 64) (omega arith))
 
+  -- one word more laid behind n octets
+  word-laid : (at n place word : ℕ) (o : List ℕ) {m m′ : List ℕ} → m ≡ laidAt (octetsFrom (multiblockBit 0 sync octets) at n) at o → m′ ≡ laidAt (octetsOf (digit 64 word) 8) place m
+      → word ≡ number (multiblockBit 0 sync octets) (8 * place) 64 → place ≡ at + n → place + 8 ≤ length o → m′ ≡ laidAt (octetsFrom (multiblockBit 0 sync octets) at (n + 8)) at o
+  word-laid at n place word o p q e ep h =
+      q ∙ ap (laidAt (octetsOf (digit 64 word) 8) place) p ∙ laid-next (multiblockBit 0 sync octets) at n 8 place (octetsOf (digit 64 word) 8) o ep h (word-from (multiblockBit 0 sync octets) bits place word e)
+
   -- the octet that block b ends
   last-octet : (b given at block : ℕ) → block ≡ number (bitAt octets) (8 * given) 64 → given ≡ 8 * b → 8 * at + 8 ≡ 66 * (b + 1) → bitAnd block 255 ≡ number (multiblockBit 0 sync octets) (8 * at) 8
   last-octet b given at block eb eg place =
       and-mask block 8 ∙ last-bits (multiblockBit 0 sync octets) bits (66 * b + 2) (8 * at) 8 block (lit≤ tt) (omega arith) (data-is b given block eg eb)
 
   -- four blocks laid down, which end with an octet
-  pub four-filled : (four : ℕ) {o m₁ m₂ m₃ m₄ : List ℕ} (first second third fourth header₁ header₂ header₃ header₄ : ℕ) → four < 8 → 264 ≤ length o
+  pub four-laid : (four : ℕ) (o : List ℕ) {m₁ m₂ m₃ m₄ : List ℕ} (first second third fourth header₁ header₂ header₃ header₄ : ℕ) → 33 * four + 33 ≤ length o
       → first ≡ number (bitAt octets) (8 * (32 * four)) 64 → second ≡ number (bitAt octets) (8 * (32 * four + 8)) 64
       → third ≡ number (bitAt octets) (8 * (32 * four + 16)) 64 → fourth ≡ number (bitAt octets) (8 * (32 * four + 24)) 64
       → header₁ ≡ headerOf (digit 32 sync (4 * four)) → header₂ ≡ headerOf (digit 32 sync (4 * four + 1))
       → header₃ ≡ headerOf (digit 32 sync (4 * four + 2)) → header₄ ≡ headerOf (digit 32 sync (4 * four + 3))
-      → Filled (placed (bitOr (header₁ * 2 ^ 62 % 2 ^ 64) (first / 2 ^ 2)) (33 * four)) o m₁ (33 * four) (33 * four + 8)
-      → Filled (placed (bitOr (bitOr (first * 2 ^ 62 % 2 ^ 64) (header₂ * 2 ^ 60 % 2 ^ 64)) (second / 2 ^ 4)) (33 * four + 8)) m₁ m₂ (33 * four + 8) (33 * four + 8 + 8)
-      → Filled (placed (bitOr (bitOr (second * 2 ^ 60 % 2 ^ 64) (header₃ * 2 ^ 58 % 2 ^ 64)) (third / 2 ^ 6)) (33 * four + 16)) m₂ m₃ (33 * four + 16) (33 * four + 16 + 8)
-      → Filled (placed (bitOr (bitOr (third * 2 ^ 58 % 2 ^ 64) (header₄ * 2 ^ 56 % 2 ^ 64)) (fourth / 2 ^ 8)) (33 * four + 24)) m₃ m₄ (33 * four + 24) (33 * four + 24 + 8)
-      → Filled (multiblockBit 0 sync octets) o (set m₄ (33 * four + 32) (bitAnd fourth 255)) (33 * four) (33 * four + 33)
-  four-filled four {o} {m₁} {m₂} {m₃} {m₄} first second third fourth header₁ header₂ header₃ header₄ h l e₁ e₂ e₃ e₄ h₁ h₂ h₃ h₄ p₁ p₂ p₃ p₄ =
+      → m₁ ≡ laidAt (octetsOf (digit 64 (bitOr (header₁ * 2 ^ 62 % 2 ^ 64) (first / 2 ^ 2))) 8) (33 * four) o
+      → m₂ ≡ laidAt (octetsOf (digit 64 (bitOr (bitOr (first * 2 ^ 62 % 2 ^ 64) (header₂ * 2 ^ 60 % 2 ^ 64)) (second / 2 ^ 4))) 8) (33 * four + 8) m₁
+      → m₃ ≡ laidAt (octetsOf (digit 64 (bitOr (bitOr (second * 2 ^ 60 % 2 ^ 64) (header₃ * 2 ^ 58 % 2 ^ 64)) (third / 2 ^ 6))) 8) (33 * four + 16) m₂
+      → m₄ ≡ laidAt (octetsOf (digit 64 (bitOr (bitOr (third * 2 ^ 58 % 2 ^ 64) (header₄ * 2 ^ 56 % 2 ^ 64)) (fourth / 2 ^ 8))) 8) (33 * four + 24) m₃
+      → 33 * four + 32 < length m₄
+      → set m₄ (33 * four + 32) (bitAnd fourth 255) ≡ laidAt (octetsFrom (multiblockBit 0 sync octets) (33 * four) 33) (33 * four) o
+  unfolding run
+  four-laid four o {m₁} {m₄ = m₄} first second third fourth header₁ header₂ header₃ header₄ h e₁ e₂ e₃ e₄ h₁ h₂ h₃ h₄ p₁ p₂ p₃ p₄ inside =
       let f = multiblockBit 0 sync octets in
       let at = 33 * four in
-      let q₁ = filled-word f bits p₁ (first-word (4 * four) (32 * four) at header₁ first h₁ e₁ (omega arith) (omega arith)) in
-      let q₂ = filled-join q₁ (filled-word f bits p₂ (next-word (4 * four + 1) 2 (32 * four) (32 * four + 8) (at + 8) first header₂ second e₁ h₂ e₂ (omega arith) (omega arith) (omega arith) (lit≤ tt))) refl (omega arith) (omega arith) in
-      let q₃ = filled-join q₂ (filled-word f bits p₃ (next-word (4 * four + 2) 4 (32 * four + 8) (32 * four + 16) (at + 16) second header₃ third e₂ h₃ e₃ (omega arith) (omega arith) (omega arith) (lit≤ tt))) (omega arith) (omega arith) (omega arith) in
-      let q₄ = filled-join q₃ (filled-word f bits p₄ (next-word (4 * four + 3) 6 (32 * four + 16) (32 * four + 24) (at + 24) third header₄ fourth e₃ h₄ e₄ (omega arith) (omega arith) (omega arith) (lit≤ tt))) (omega arith) (omega arith) (omega arith) in
-      filled-to (filled-join q₄ (filled-set m₄ (at + 32) (bitAnd fourth 255) (omega (arith, q₄ .same-length)) (last-octet (4 * four + 3) (32 * four + 24) (at + 32) fourth e₄ (omega arith) (omega arith))) (omega arith) (omega arith) (omega arith)) (omega arith)
+      let q₁ : m₁ ≡ laidAt (octetsFrom f at 8) at o = p₁ ∙ ap (λ (x : List ℕ). laidAt x at o) (word-from f bits at _ (first-word (4 * four) (32 * four) at header₁ first h₁ e₁ (omega arith) (omega arith))) in
+      let q₂ = word-laid at 8 (at + 8) _ o q₁ p₂ (next-word (4 * four + 1) 2 (32 * four) (32 * four + 8) (at + 8) first header₂ second e₁ h₂ e₂ (omega arith) (omega arith) (omega arith) (lit≤ tt)) refl (omega arith) in
+      let q₃ = word-laid at 16 (at + 16) _ o q₂ p₃ (next-word (4 * four + 2) 4 (32 * four + 8) (32 * four + 16) (at + 16) second header₃ third e₂ h₃ e₃ (omega arith) (omega arith) (omega arith) (lit≤ tt)) refl (omega arith) in
+      let q₄ = word-laid at 24 (at + 24) _ o q₃ p₄ (next-word (4 * four + 3) 6 (32 * four + 16) (32 * four + 24) (at + 24) third header₄ fourth e₃ h₄ e₄ (omega arith) (omega arith) (omega arith) (lit≤ tt)) refl (omega arith) in
+      laid-octet (at + 32) (bitAnd fourth 255) m₄ inside
+      ∙ ap (laidAt (bitAnd fourth 255 ∷ []) (at + 32)) q₄
+      ∙ laid-next f at 32 1 (at + 32) (bitAnd fourth 255 ∷ []) o refl (omega arith) (ap (λ (x : ℕ). x ∷ []) (last-octet (4 * four + 3) (32 * four + 24) (at + 32) fourth e₄ (omega arith) (omega arith)))
+
+  -- and laid behind the fours before
+  pub four-more : (four : ℕ) (o : List ℕ) {m m′ : List ℕ} → 33 * four + 33 ≤ length o → m ≡ laid (octetsOf (multiblockBit 0 sync octets) (33 * four)) o
+      → m′ ≡ laidAt (octetsFrom (multiblockBit 0 sync octets) (33 * four) 33) (33 * four) m → m′ ≡ laid (octetsOf (multiblockBit 0 sync octets) (33 * (four + 1))) o
+  four-more four o h p q =
+      let f = multiblockBit 0 sync octets in
+      q
+      ∙ ap (laidAt (octetsFrom f (33 * four) 33) (33 * four)) p
+      ∙ laid-more f (33 * four) 33 (octetsFrom f (33 * four) 33) o h refl
+      ∙ ap (λ (x : ℕ). laid (octetsOf f x) o) {x = 33 * four + 33} {y = 33 * (four + 1)} (omega arith)

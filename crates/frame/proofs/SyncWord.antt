@@ -4,7 +4,7 @@ use mathlib.Core.Path.{_≡_, refl, sym, ap, ap₂, _∙_, subst}
 use mathlib.Core.Bool.{Bool, true, false, _&&_}
 use mathlib.Core.List.{List, [], _∷_}
 use Prim.Native.Nat.{ℕ, zero, suc, _+_, _-_, _*_, _/_, _%_, _^_, _≤_, _<_}
-use native.Mathlib.Nat.{mod-lt, zero-lt-suc, pow-suc, le-of-suc-le-suc, not-suc-le-zero, add-zero, zero-add, add-suc, div-one, le-refl}
+use native.Mathlib.Nat.{mod-lt, zero-lt-suc, pow-suc, le-of-suc-le-suc, not-suc-le-zero, add-zero, zero-add, add-suc, le-refl}
 use native.Mathlib.Numerals.{add-one}
 use native.Mathlib.Omega.{arith}
 use borrow.Author.Tests.{eqb-true, ne-eqb, le-leb, lt-leb}
@@ -12,7 +12,7 @@ use lib.Dec.{T, ltb, leb, eqb, ltb→lt, eqb→eq}
 use lib.ListN.{length, getD}
 use Rattle.bits.specs.Choice.{pick}
 use Rattle.bits.specs.Order.{number, digit}
-use Rattle.bits.proofs.Numbers.{number-lt, number-ext, number-digits, digit-number, low-digit}
+use Rattle.bits.proofs.Numbers.{number-lt, number-ext, number-whole, digit-number, low-digit}
 use Rattle.bits.proofs.Tests.{left, right, every, every-at}
 use Rattle.frame.specs.Modes.{Field, parity, command, mark, fixed, Row, crc12Row, fecRow, row}
 use Rattle.frame.specs.SyncWord.{held, syncWord, key, position, readParity, readCommand, markedCommand}
@@ -184,8 +184,7 @@ module _ (R : Row) (s : Stands R) where
       let w = R .code .width in
       number-ext (λ j. digit 32 (syncWord R p c e) (place R (parity (w - 1 - j)))) (λ j. p / 2 ^ (w - 1 - j) % 2) 0 0 w
       (λ j h. digit-there p c e (parity (w - 1 - (0 + j))) (s .parities (w - 1 - (0 + j)) (omega arith)))
-      ∙ number-digits p w w 0 (sym (add-zero w))
-      ∙ ap (λ (x : ℕ). x % 2 ^ w) (div-one p)
+      ∙ number-whole w p
 
   pub reads-command : (p c e : ℕ) → readCommand R (digit 32 (syncWord R p c e)) ≡ c % 2 ^ R .commandWidth
   unfolding readCommand held
@@ -193,8 +192,7 @@ module _ (R : Row) (s : Stands R) where
       let w = R .commandWidth in
       number-ext (λ j. digit 32 (syncWord R p c e) (place R (command (w - 1 - j)))) (λ j. c / 2 ^ (w - 1 - j) % 2) 0 0 w
       (λ j h. digit-there p c e (command (w - 1 - (0 + j))) (s .commands (w - 1 - (0 + j)) (omega arith)))
-      ∙ number-digits c w w 0 (sym (add-zero w))
-      ∙ ap (λ (x : ℕ). x % 2 ^ w) (div-one c)
+      ∙ number-whole w c
 
 -- ---- what is read
 

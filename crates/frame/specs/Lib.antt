@@ -6,4 +6,3 @@ pub mod SyncWord
 pub mod Scrambling
 pub mod Parts
 pub mod Dozen
-pub mod Filled

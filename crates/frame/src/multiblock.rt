@@ -5,8 +5,7 @@ ghost use Prim.Native.Nat.{_+_, _-_, _*_, _/_, _%_, _≤_, _<_};
 ghost use lib.Dec.{eqb, ltb};
 ghost use lib.ListN.{length};
 ghost use Rattle.bits.specs.Choice.{pick};
-ghost use Rattle.bits.specs.Order.{bitAt, digit, number};
-ghost use Rattle.frame.specs.Filled.{Filled};
+ghost use Rattle.bits.specs.Order.{bitAt, run, digit, number, laidAt};
 ghost use Rattle.frame.specs.Headers.{carries, spoilt, headerOf};
 ghost use Rattle.frame.specs.Lane.{multiblock, multiblockBit, dataOctets, syncBit, spoiltBit};
 ghost use Rattle.frame.specs.Parts.{refusalOf, written};
@@ -24,42 +23,6 @@ fn refusal_of(given: usize, takes: usize, lent: usize, fills: usize) -> u8
     0
 }
 
-fn wide(octet: u8) -> u64
-    ensures { λ r. ⌜ r ≡ octet ⌝ }
-{
-    octet as u64
-}
-
-// Eight octets that are there, as one load. `bits::word_at` tests for the end, which no multiblock comes to.
-fn word_of(octets: &[u8], at: usize) -> u64
-    requires { ⌜ at + 8 ≤ length (now octets) ⌝ }
-    ensures { λ r. ⌜ r ≡ number (bitAt (now (octets .entry))) (8 * at) 64 ⌝ }
-{
-    (wide(octets[at]) << 56)
-        | (wide(octets[at + 1]) << 48)
-        | (wide(octets[at + 2]) << 40)
-        | (wide(octets[at + 3]) << 32)
-        | (wide(octets[at + 4]) << 24)
-        | (wide(octets[at + 5]) << 16)
-        | (wide(octets[at + 6]) << 8)
-        | wide(octets[at + 7])
-}
-
-// A word stored as eight octets.
-fn put_word(word: u64, at: usize, out: &mut [u8])
-    requires { ⌜ at + 8 ≤ length (now out) ⌝ }
-    ensures { λ _. ⌜ Filled (λ k. digit 64 word (k - 8 * at)) (now (out .entry)) (now (out .exit)) at (at + 8) ⌝ }
-{
-    out[at] = ((word >> 56) & 255) as u8;
-    out[at + 1] = ((word >> 48) & 255) as u8;
-    out[at + 2] = ((word >> 40) & 255) as u8;
-    out[at + 3] = ((word >> 32) & 255) as u8;
-    out[at + 4] = ((word >> 24) & 255) as u8;
-    out[at + 5] = ((word >> 16) & 255) as u8;
-    out[at + 6] = ((word >> 8) & 255) as u8;
-    out[at + 7] = (word & 255) as u8;
-}
-
 // The header that carries a bit of the sync word.
 fn header_of(sync: u32, block: usize) -> u64
     requires { ⌜ block < 32 ⌝ }
@@ -74,29 +37,29 @@ fn header_of(sync: u32, block: usize) -> u64
 
 // Four blocks, which fill 33 octets: each begins two bits further into an octet than the one before.
 fn put_four(sync: u32, octets: &[u8], four: usize, lane: &mut [u8])
-    requires { ⌜ (four < 8) × (256 ≤ length (now octets)) × (264 ≤ length (now lane)) ⌝ }
-    ensures { λ _. ⌜ Filled (multiblockBit 0 sync (now (octets .entry))) (now (lane .entry)) (now (lane .exit)) (33 * four) (33 * four + 33) ⌝ }
+    requires { ⌜ (four < 8) × (264 ≤ length (now lane)) ⌝ }
+    ensures { λ _. ⌜ now (lane .exit) ≡ laidAt (run (λ j. number (multiblockBit 0 sync (now (octets .entry))) (8 * j) 8) (33 * four) 33) (33 * four) (now (lane .entry)) ⌝ }
 {
     let at = 33 * four;
-    let first = word_of(octets, 32 * four);
-    let second = word_of(octets, 32 * four + 8);
-    let third = word_of(octets, 32 * four + 16);
-    let fourth = word_of(octets, 32 * four + 24);
+    let first = bits::word_at(octets, 32 * four);
+    let second = bits::word_at(octets, 32 * four + 8);
+    let third = bits::word_at(octets, 32 * four + 16);
+    let fourth = bits::word_at(octets, 32 * four + 24);
     let header = header_of(sync, 4 * four);
-    put_word((header << 62) | (first >> 2), at, lane);
+    bits::put_word(lane, at, (header << 62) | (first >> 2));
     let header = header_of(sync, 4 * four + 1);
-    put_word((first << 62) | (header << 60) | (second >> 4), at + 8, lane);
+    bits::put_word(lane, at + 8, (first << 62) | (header << 60) | (second >> 4));
     let header = header_of(sync, 4 * four + 2);
-    put_word(
-        (second << 60) | (header << 58) | (third >> 6),
-        at + 16,
+    bits::put_word(
         lane,
+        at + 16,
+        (second << 60) | (header << 58) | (third >> 6),
     );
     let header = header_of(sync, 4 * four + 3);
-    put_word(
-        (third << 58) | (header << 56) | (fourth >> 8),
-        at + 24,
+    bits::put_word(
         lane,
+        at + 24,
+        (third << 58) | (header << 56) | (fourth >> 8),
     );
     lane[at + 32] = (fourth & 255) as u8;
 }
@@ -148,7 +111,7 @@ fn data_at(word: u64, lane: &[u8], block: usize) -> u64
     ensures { λ r. ⌜ r ≡ number (bitAt (now (lane .entry))) (66 * block + 2) 64 ⌝ }
 {
     let before = 66 * block % 8 + 2;
-    let ninth = wide(lane[66 * block / 8 + 8]);
+    let ninth = lane[66 * block / 8 + 8] as u64;
     (word << before) | (ninth >> (8 - before))
 }
 
@@ -177,11 +140,11 @@ pub fn read(lane: &[u8], octets: &mut [u8]) -> Headers
     let mut bits: u32 = 0;
     let mut bad: u32 = 0;
     for block in 0..32usize {
-        let word = word_of(lane, 66 * block / 8);
+        let word = bits::word_at(lane, 66 * block / 8);
         let header = header_in(word, block);
         bits = (bits << 1) | carried(header);
         bad = (bad << 1) | invalid(header);
-        put_word(data_at(word, lane, block), 8 * block, octets);
+        bits::put_word(octets, 8 * block, data_at(word, lane, block));
     }
     Headers {
         refusal: 0,

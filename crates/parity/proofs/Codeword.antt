@@ -1,14 +1,14 @@
 -- The remainder of data, with the parity received, is the sum of the weights of the codeword's set positions. Assumes nothing.
 use mathlib.Core.Path.{_≡_, refl, sym, ap, ap₂, _∙_}
 use Prim.Native.Nat.{ℕ, zero, suc, _+_, _-_, _*_, _/_, _%_, _^_, _≤_, _<_}
-use native.Mathlib.Nat.{add-zero, zero-add, add-suc, suc-add, le-refl, mod-eq-of-lt, div-one, zero-lt-suc}
+use native.Mathlib.Nat.{add-zero, zero-add, add-suc, suc-add, le-refl, mod-eq-of-lt, zero-lt-suc}
 use native.Mathlib.Omega.{arith}
 use lib.Pow.{pow-pos, pow-lt}
 use lib.Bits.{bitXor, xor-lt, xor-comm, xor-zero-r, xor-shifted}
 use borrow.Author.Tests.{lt-ltb, le-ltb}
 use Rattle.bits.specs.Order.{run, number}
 use Rattle.bits.proofs.Xor.{odd-lt, xor-assoc, xor-swap}
-use Rattle.bits.proofs.Numbers.{number-first, number-lt, number-ext, number-digits}
+use Rattle.bits.proofs.Numbers.{number-first, number-lt, number-ext, number-whole}
 use Rattle.parity.specs.Polynomial.{scale, timesX, timesPower, power}
 use Rattle.parity.specs.Remainder.{next, remainderFrom, remainder}
 use Rattle.parity.specs.Codeword.{Code, weight, codeword, weighed, remainderOf}
@@ -106,8 +106,7 @@ module _ (C : Code) where
       parity-number h =
           number-ext (λ p. parity / 2 ^ (C .positions - 1 - p) % 2) (λ j. parity / 2 ^ (w - 1 - j) % 2) (C .positions - w) 0 w
           (λ j l. ap (λ (x : ℕ). parity / 2 ^ x % 2) {x = C .positions - 1 - (C .positions - w + j)} {y = w - 1 - (0 + j)} (omega arith))
-          ∙ number-digits parity w w 0 (sym (add-zero w))
-          ∙ ap (λ (x : ℕ). x % 2 ^ w) (div-one parity)
+          ∙ number-whole w parity
           ∙ mod-eq-of-lt h
 
       -- the remainder with the received parity is the codeword's

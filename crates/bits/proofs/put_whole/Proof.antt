@@ -1,113 +1,33 @@
 -- `bits::put_whole` meets its contract.
 -- Assumes nothing.
 use borrow.Author.Needs.{needs}
-use native.Mathlib.Omega.{arith}
-use lib.ListN.{length-set}
+use Prim.Native.Nat.{_+_, _-_}
+use mathlib.Core.Path.{ap, _∙_}
+use denote.Ref.{now}
+use Rattle.bits.specs.Order.{digit, octetsOf, laidAt}
 use Rattle.bits.proofs.Laid.{store}
 use Rattle.bits.proofs.put_whole.Statement.{statement}
 use Rattle.bits.proofs.put_whole.Tie as tie
 
-cast-out : tie.Need-cast-out
-cast-out c = search needs
+put-half-requires : tie.Need-put-half-requires
+put-half-requires c κs = search needs
 
-slice-write-out : tie.Need-slice-write-out
-slice-write-out c = search needs
+add-put-half : tie.Need-add-put-half
+add-put-half c = search needs
 
-cast-out-2 : tie.Need-cast-out-2
-cast-out-2 c = search needs
-
-add-out : tie.Need-add-out
-add-out c = search needs
-
-slice-write-out-2 : tie.Need-slice-write-out-2
-slice-write-out-2 c = simp length-set (omega arith)
-
-cast-out-3 : tie.Need-cast-out-3
-cast-out-3 c = search needs
-
-add-out-2 : tie.Need-add-out-2
-add-out-2 c = search needs
-
-slice-write-out-3 : tie.Need-slice-write-out-3
-slice-write-out-3 c = simp length-set (omega arith)
-
-cast-out-4 : tie.Need-cast-out-4
-cast-out-4 c = search needs
-
-add-out-3 : tie.Need-add-out-3
-add-out-3 c = search needs
-
-slice-write-out-4 : tie.Need-slice-write-out-4
-slice-write-out-4 c = simp length-set (omega arith)
-
-cast-out-5 : tie.Need-cast-out-5
-cast-out-5 c = search needs
-
-add-out-4 : tie.Need-add-out-4
-add-out-4 c = search needs
-
-slice-write-out-5 : tie.Need-slice-write-out-5
-slice-write-out-5 c = simp length-set (omega arith)
-
-cast-out-6 : tie.Need-cast-out-6
-cast-out-6 c = search needs
-
-add-out-5 : tie.Need-add-out-5
-add-out-5 c = search needs
-
-slice-write-out-6 : tie.Need-slice-write-out-6
-slice-write-out-6 c = simp length-set (omega arith)
-
-cast-out-7 : tie.Need-cast-out-7
-cast-out-7 c = search needs
-
-add-out-6 : tie.Need-add-out-6
-add-out-6 c = search needs
-
-slice-write-out-7 : tie.Need-slice-write-out-7
-slice-write-out-7 c = simp length-set (omega arith)
-
-cast-out-8 : tie.Need-cast-out-8
-cast-out-8 c = search needs
-
-add-out-7 : tie.Need-add-out-7
-add-out-7 c = search needs
-
-slice-write-out-8 : tie.Need-slice-write-out-8
-slice-write-out-8 c = simp length-set (omega arith)
+put-half-requires-2 : tie.Need-put-half-requires-2
+put-half-requires-2 c κs = search needs
 
 same-length : tie.Need-same-length
-same-length c = simp length-set
+same-length c = search needs
 
 returns : tie.Need-returns
-returns c = store (c .args .out .now) (c .args .at) (c .args .word) (c .pre)
+returns c =
+    let a = c .before .before .before .before .before .before .before .before .before .args in
+    c .before .before .put-half2 .ensures
+    ∙ ap (laidAt (octetsOf (digit 32 (a .word)) 4) (a .at + 4)) (c .before .before .before .before .before .before .put-half .ensures)
+    ∙ store (a .word) (a .at) (a .out .now) (c .before .before .before .before .before .before .before .before .before .pre)
 
 pub put-whole-spec : {M : Type 1} → statement M
 put-whole-spec =
-    tie.close
-    (tie.spec
-    cast-out
-    slice-write-out
-    cast-out-2
-    add-out
-    slice-write-out-2
-    cast-out-3
-    add-out-2
-    slice-write-out-3
-    cast-out-4
-    add-out-3
-    slice-write-out-4
-    cast-out-5
-    add-out-4
-    slice-write-out-5
-    cast-out-6
-    add-out-5
-    slice-write-out-6
-    cast-out-7
-    add-out-6
-    slice-write-out-7
-    cast-out-8
-    add-out-7
-    slice-write-out-8
-    same-length
-    returns)
+    tie.close (tie.spec put-half-requires add-put-half put-half-requires-2 same-length returns)

@@ -2,7 +2,9 @@
 -- Assumes nothing.
 use borrow.Author.Needs.{needs}
 use Prim.Native.Nat.{_+_, _-_, _*_, _/_, _%_}
+use mathlib.Core.Path.{refl}
 use native.Mathlib.Omega.{arith}
+use lib.ListN.{getD}
 use denote.Ref.{now}
 use Rattle.frame.proofs.Packing.{word-and-octet}
 use Rattle.frame.proofs.multiblock.data_at.Statement.{statement}
@@ -14,17 +16,17 @@ mul-before c = search needs
 add-before : tie.Need-add-before
 add-before c = search needs
 
-mul-wide : tie.Need-mul-wide
-mul-wide c = search needs
+mul-ninth : tie.Need-mul-ninth
+mul-ninth c = search needs
 
-add-wide : tie.Need-add-wide
-add-wide c = search needs
+add-ninth : tie.Need-add-ninth
+add-ninth c = search needs
 
-shared-slice-read-wide : tie.Need-shared-slice-read-wide
-shared-slice-read-wide c = search needs
+shared-slice-read-ninth : tie.Need-shared-slice-read-ninth
+shared-slice-read-ninth c = search needs
 
-wide-requires : tie.Need-wide-requires
-wide-requires c κs = search needs
+cast-ninth : tie.Need-cast-ninth
+cast-ninth c = record { fits = omega (arith, c .shared-slice-known .given (66 * c .before .args .block / 8 + 8)) }
 
 shl-result : tie.Need-shl-result
 shl-result c = search needs
@@ -37,10 +39,9 @@ shr-result c = search needs
 
 returns : tie.Need-returns
 returns c =
-    let a = c .before .before .before .args in
+    let a = c .before .args in
     let at = 66 * a .block / 8 in
-    let octet = c .wide .ensures in
-    word-and-octet (now (a .lane)) at (66 * a .block % 8 + 2) (66 * a .block + 2) (a .word) (c .wide .result) (c .before .before .before .pre .1) octet (rw octet (omega (arith, c .before .shared-slice-known2 .given (at + 8)))) (omega arith) (omega arith)
+    word-and-octet (now (a .lane)) at (66 * a .block % 8 + 2) (66 * a .block + 2) (a .word) (getD (now (a .lane)) (at + 8) 0) (c .before .pre .1) refl (omega (arith, c .shared-slice-known .given (at + 8))) (omega arith) (omega arith)
 
 pub data-at-spec : {M : Type 1} → statement M
 data-at-spec =
@@ -48,10 +49,10 @@ data-at-spec =
     (tie.spec
     mul-before
     add-before
-    mul-wide
-    add-wide
-    shared-slice-read-wide
-    wide-requires
+    mul-ninth
+    add-ninth
+    shared-slice-read-ninth
+    cast-ninth
     shl-result
     sub-result
     shr-result

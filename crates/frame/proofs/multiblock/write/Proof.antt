@@ -1,21 +1,22 @@
 -- `frame::multiblock::write` meets its contract.
 -- Assumes nothing.
 use borrow.Author.Needs.{needs}
-use Prim.Native.Nat.{_-_, _*_, _≤_}
-use mathlib.Core.Path.{refl, sym, _∙_}
+use Prim.Native.Nat.{ℕ, _-_, _*_, _≤_}
+use mathlib.Core.Path.{_≡_, sym, ap, _∙_}
 use native.Mathlib.Omega.{arith}
 use lib.ListN.{length}
 use denote.Ref.{now}
-use Rattle.frame.specs.Filled.{Filled}
+use Rattle.bits.specs.Order.{octetsOf, laid}
+use Rattle.bits.proofs.Laid.{laid-none, length-laid-octets}
 use Rattle.frame.specs.Lane.{multiblock, multiblockBit, laneOctets, blockWidth}
 use Rattle.frame.specs.Parts.{refusalOf, written}
-use Rattle.frame.proofs.Filled.{filled-none, filled-join, filled-to, filled-laid}
+use Rattle.frame.proofs.Packing.{four-more}
 use Rattle.frame.proofs.Parts.{long-enough, untouched}
 use Rattle.frame.proofs.multiblock.write.Statement.{statement}
 use Rattle.frame.proofs.multiblock.write.Tie as tie
 
 abbrev Inv-loop : tie.InvT-loop
-Inv-loop sync octets lane₀ refusal four₀ lane four = (four ≤ 8) × (256 ≤ length octets) × (264 ≤ length lane₀) × Filled (multiblockBit 0 sync octets) lane₀ lane 0 (33 * four)
+Inv-loop sync octets lane₀ refusal four₀ lane four = (four ≤ 8) × (264 ≤ length lane₀) × (lane ≡ laid (octetsOf (multiblockBit 0 sync octets) (33 * four)) lane₀)
 
 abbrev μ-loop : tie.MeasureT-loop
 μ-loop sync octets lane₀ refusal four₀ lane four = 8 - four
@@ -34,10 +35,15 @@ unfolding refusalOf
 loop-holds c =
     let a = c .before .before .before .before .args in
     let long = long-enough 256 (now (a .octets)) 264 (now (a .lane)) (sym (c .before .refusal-of .ensures) ∙ c .if1 .left) in
-    (search needs, long .0, long .1, filled-none _ 0 _ (omega arith))
+    (search needs, long .1, laid-none (multiblockBit 0 (a .sync) (now (a .octets))) (now (a .lane)))
 
 put-four-requires : tie.Need-put-four-requires Inv-loop μ-loop
-put-four-requires c κs = search needs
+put-four-requires c κs =
+    let a = c .before .before .before .before .before .before .before .args in
+    let l = c .before .before .loop in
+    let f = multiblockBit 0 (a .sync) (now (a .octets)) in
+    let long = ap length (l .inv .2) ∙ length-laid-octets f (33 * l .four) (now (a .lane)) (omega arith) in
+    (omega arith, omega arith)
 
 add-four : tie.Need-add-four Inv-loop μ-loop
 add-four c = search needs
@@ -47,17 +53,24 @@ loop-less c = search needs
 
 loop-again : tie.Need-loop-again Inv-loop μ-loop
 loop-again c =
+    let a = c .before .before .before .before .before .before .before .before .before .before .args in
     let l = c .before .before .before .before .before .loop in
-    (search needs, l .inv .1, l .inv .2, filled-to (filled-join (l .inv .3) (c .before .before .put-four .ensures) refl (omega arith) (omega arith)) (omega arith))
+    (search needs, l .inv .1, four-more (a .sync) (now (a .octets)) (l .four) (now (a .lane)) (omega arith) (l .inv .2) (c .before .before .put-four .ensures))
 
 same-length : tie.Need-same-length Inv-loop μ-loop
-same-length c = c .before .loop .inv .3 .same-length
+same-length c =
+    let a = c .before .before .before .before .before .before .args in
+    let l = c .before .loop in
+    let f = multiblockBit 0 (a .sync) (now (a .octets)) in
+    ap length (l .inv .2) ∙ length-laid-octets f (33 * l .four) (now (a .lane)) (omega arith)
 
 returns-2 : tie.Need-returns-2 Inv-loop μ-loop
 unfolding refusalOf written multiblock laneOctets blockWidth
 returns-2 c =
+    let a = c .before .before .before .before .before .before .args in
     let l = c .before .loop in
-    (sym (c .before .before .if1 .left) ∙ c .before .before .before .refusal-of .ensures, filled-laid (filled-to (l .inv .3) (omega arith)) (l .inv .2))
+    let e : 33 * l .four ≡ 264 = omega arith in
+    (sym (c .before .before .if1 .left) ∙ c .before .before .before .refusal-of .ensures, l .inv .2 ∙ ap (λ (x : ℕ). laid (octetsOf (multiblockBit 0 (a .sync) (now (a .octets))) x) (now (a .lane))) e)
 
 pub write-spec : {M : Type 1} → statement M
 write-spec =

@@ -7,7 +7,7 @@ use native.Mathlib.Omega.{arith}
 use lib.ListN.{length}
 use Rattle.bits.specs.Order.{bitAt, number, digit, octetsOf, laid, laidAt}
 use Rattle.bits.proofs.Numbers.{bitAt-lt}
-use Rattle.bits.proofs.Laid.{laid-none, laid-word, length-laid, length-octets}
+use Rattle.bits.proofs.Laid.{laid-none, laid-word, length-laid-octets}
 use Rattle.frame.specs.Scrambling.{plain, descrambled}
 use Rattle.frame.proofs.Scrambling.{allCome, plain-lt}
 use Rattle.frame.proofs.Blocks.{next-plain, next-come}
@@ -74,7 +74,7 @@ same-length : tie.Need-same-length Inv-loop μ-loop
 same-length c =
     let a = c .before .before .before .before .before .args in
     let l = c .before .loop in
-    ap length (l .inv .2) ∙ length-laid (octetsOf (plain (a .history) (bitAt (a .octets .now))) (8 * l .i)) (a .out .now) (omega (arith, length-octets (plain (a .history) (bitAt (a .octets .now))) (8 * l .i)))
+    ap length (l .inv .2) ∙ length-laid-octets (plain (a .history) (bitAt (a .octets .now))) (8 * l .i) (a .out .now) (omega arith)
 
 returns : tie.Need-returns Inv-loop μ-loop
 unfolding descrambled

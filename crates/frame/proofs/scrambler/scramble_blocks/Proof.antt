@@ -7,7 +7,7 @@ use native.Mathlib.Omega.{arith}
 use lib.ListN.{length}
 use Rattle.bits.specs.Order.{bitAt, number, digit, octetsOf, laid, laidAt}
 use Rattle.bits.proofs.Numbers.{bitAt-lt}
-use Rattle.bits.proofs.Laid.{laid-none, laid-word, length-laid, length-octets}
+use Rattle.bits.proofs.Laid.{laid-none, laid-word, length-laid-octets}
 use Rattle.frame.specs.Scrambling.{sent, allSent, historyAfter, scrambled}
 use Rattle.frame.proofs.Scrambling.{sent-lt}
 use Rattle.frame.proofs.Blocks.{next-sent, next-history}
@@ -74,7 +74,7 @@ same-length : tie.Need-same-length Inv-loop μ-loop
 same-length c =
     let a = c .before .before .before .before .before .args in
     let l = c .before .loop in
-    ap length (l .inv .2) ∙ length-laid (octetsOf (sent (bitAt (a .user .now)) (a .history)) (8 * l .i)) (a .out .now) (omega (arith, length-octets (sent (bitAt (a .user .now)) (a .history)) (8 * l .i)))
+    ap length (l .inv .2) ∙ length-laid-octets (sent (bitAt (a .user .now)) (a .history)) (8 * l .i) (a .out .now) (omega arith)
 
 returns : tie.Need-returns Inv-loop μ-loop
 unfolding scrambled
