@@ -1,0 +1,123 @@
+-- `sender::run::send_all` meets its contract.
+-- Assumes nothing.
+use borrow.Author.Needs.{needs}
+use Prim.Native.Nat.{ℕ, suc, _+_, _-_, _*_, _/_, _%_, _^_, _≤_, _<_}
+use mathlib.Core.Path.{_≡_, refl, sym, ap, _∙_, subst}
+use mathlib.Core.List.{List, [], _∷_, _++_}
+use mathlib.Core.Bool.{Bool, true, false}
+use mathlib.Core.Logic.{⊎-elim}
+use native.Mathlib.Numerals.{add-one}
+use native.Mathlib.Omega.{arith}
+use borrow.Author.Count.{below-more}
+use borrow.Author.Tests.{le-ltb, lt-ltb, ltb-true, ltb-false, eq-eqb, ne-eqb}
+use lib.ListN.{length, getD, set, take, drop, length-set, length-append, length-take, length-drop}
+use lib.Seq.{take-suc, take-suc-set, take-all}
+use denote.Ref.{now}
+use Rattle.sender.proofs.run.send_all.Statement.{statement}
+use Rattle.sender.proofs.run.send_all.Tie as tie
+use Rattle.sender.proofs.run.send_all.Reads as reads
+use Rattle.sender.proofs.run.send_all.Lts as lts
+use Rattle.sender.proofs.run.send_one.Reads as send-one-reads
+
+abbrev Inv-loop : tie.InvT-loop
+Inv-loop mode e user commands lane₀ count state₀ k₀ lane state k = ?
+
+abbrev μ-loop : tie.MeasureT-loop
+μ-loop mode e user commands lane₀ count state₀ k₀ lane state k = ?
+
+-- src/run.rt:65:5
+loop-holds : tie.Need-loop-holds Inv-loop μ-loop
+loop-holds c = search needs
+
+-- src/run.rt:66:20
+mul-from : tie.Need-mul-from Inv-loop μ-loop
+mul-from c = search needs
+
+-- src/run.rt:67:20
+add-upto : tie.Need-add-upto Inv-loop μ-loop
+add-upto c = search needs
+
+-- src/run.rt:68:18
+mul-at : tie.Need-mul-at Inv-loop μ-loop
+mul-at c = search needs
+
+-- src/run.rt:73:13
+sub-send-one : tie.Need-sub-send-one Inv-loop μ-loop
+sub-send-one c = search needs
+
+-- src/run.rt:73:13
+part-send-one-start : tie.Need-part-send-one-start Inv-loop μ-loop
+part-send-one-start c = search needs
+
+-- src/run.rt:73:13
+part-send-one-end : tie.Need-part-send-one-end Inv-loop μ-loop
+part-send-one-end c = search needs
+
+-- src/run.rt:74:13
+mul-send-one : tie.Need-mul-send-one Inv-loop μ-loop
+mul-send-one c = search needs
+
+-- src/run.rt:74:13
+shared-slice-read-send-one : tie.Need-shared-slice-read-send-one Inv-loop μ-loop
+shared-slice-read-send-one c = search needs
+
+-- src/run.rt:75:13
+sub-send-one-2 : tie.Need-sub-send-one-2 Inv-loop μ-loop
+sub-send-one-2 c = search needs
+
+-- src/run.rt:75:13
+part-send-one-start-2 : tie.Need-part-send-one-start-2 Inv-loop μ-loop
+part-send-one-start-2 c = search needs
+
+-- src/run.rt:75:13
+part-send-one-end-2 : tie.Need-part-send-one-end-2 Inv-loop μ-loop
+part-send-one-end-2 c = search needs
+
+-- src/run.rt:69:9
+send-one-requires : tie.Need-send-one-requires Inv-loop μ-loop
+send-one-requires c κs = search needs
+
+-- src/run.rt:65:9
+add-k : tie.Need-add-k Inv-loop μ-loop
+add-k c = search needs
+
+-- src/run.rt:65:5
+loop-less : tie.Need-loop-less Inv-loop μ-loop
+loop-less c = search needs
+
+-- src/run.rt:65:5
+loop-again : tie.Need-loop-again Inv-loop μ-loop
+loop-again c = search needs
+
+-- src/run.rt:50:1
+same-length : tie.Need-same-length Inv-loop μ-loop
+same-length c = search needs
+
+-- src/run.rt:50:1
+returns : tie.Need-returns Inv-loop μ-loop
+returns c = search needs
+
+pub send-all-spec : {M : Type 1} → statement M
+send-all-spec =
+    tie.close
+    (tie.spec
+    Inv-loop
+    μ-loop
+    loop-holds
+    mul-from
+    add-upto
+    mul-at
+    sub-send-one
+    part-send-one-start
+    part-send-one-end
+    mul-send-one
+    shared-slice-read-send-one
+    sub-send-one-2
+    part-send-one-start-2
+    part-send-one-end-2
+    send-one-requires
+    add-k
+    loop-less
+    loop-again
+    same-length
+    returns)
