@@ -34,12 +34,17 @@ pub data Applies (mode E : ℕ) (s : Sender) (user commands lane : List ℕ) : �
 
 -- ---- what the tests say
 
+true-not-false : true ≡ false → ⊥
+true-not-false e = let z : _≡_ {A = ℕ} 0 1 = cc in omega arith
+
 -- the first of two tests that fails
 either : (a b : Bool) → (a && b) ≡ false → (a ≡ false) ⊎ (b ≡ false)
 either true b e = inr e
 either false b e = inl refl
 
 fails-left : (a b : Bool) → a ≡ false → (a && b) ≡ false
+fails-left true true e = e
+fails-left true false e = refl
 fails-left false b e = refl
 
 fails-right : (a b : Bool) → b ≡ false → (a && b) ≡ false
@@ -47,17 +52,19 @@ fails-right true b e = e
 fails-right false b e = refl
 
 -- a command that is too wide
-found : (R : Row) (commands : List ℕ) → commandsFit R commands ≡ false → (i : ℕ) × (i < length commands) × (2 ^ R .commandWidth ≤ getD commands i 0)
-unfolding commandsFit
-found R [] e = absurd (tell e)
-  where
-    tell : true ≡ false → ⊥
-    tell p = let z : _≡_ {A = ℕ} 0 1 = cc in omega arith
-found R (c ∷ commands) e = go (either (ltb c (2 ^ R .commandWidth)) (commandsFit R commands) e)
-  where
-    go : (ltb c (2 ^ R .commandWidth) ≡ false) ⊎ (commandsFit R commands ≡ false) → (i : ℕ) × (i < length (c ∷ commands)) × (2 ^ R .commandWidth ≤ getD (c ∷ commands) i 0)
-    go (inl f) = (0, omega arith, ltb-false c (2 ^ R .commandWidth) f)
-    go (inr f) = let t = found R commands f in (suc (t .0), omega (arith, t .1), t .2)
+module _ (R : Row) where
+  Wide : List ℕ → Type 0
+  Wide commands = (i : ℕ) × (i < length commands) × (2 ^ R .commandWidth ≤ getD commands i 0)
+
+  wider : (c : ℕ) (commands : List ℕ) → (ltb c (2 ^ R .commandWidth) ≡ false) ⊎ (commandsFit R commands ≡ false) → (commandsFit R commands ≡ false → Wide commands) → Wide (c ∷ commands)
+  unfolding Wide
+  wider c commands (inl f) later = (0, omega arith, ltb-false c (2 ^ R .commandWidth) f)
+  wider c commands (inr f) later = let t = later f in (suc (t .0), omega (arith, t .1), t .2)
+
+  found : (commands : List ℕ) → commandsFit R commands ≡ false → Wide commands
+  unfolding commandsFit
+  found [] e = absurd (true-not-false e)
+  found (c ∷ commands) e = wider c commands (either (ltb c (2 ^ R .commandWidth)) (commandsFit R commands) e) (found commands)
 
 unfit : (R : Row) (commands : List ℕ) (i : ℕ) → i < length commands → 2 ^ R .commandWidth ≤ getD commands i 0 → commandsFit R commands ≡ false
 unfolding commandsFit
@@ -73,7 +80,7 @@ in-turn P true k rest f r = r
 in-turn P false k rest f r = inr (f refl)
 
 -- where a later line applies, what is given is no more than it
-Below : ℕ → ℕ → Type 0
+abbrev Below : ℕ → ℕ → Type 0
 Below m r = (0 < r) × (r ≤ m)
 
 earlier : (m : ℕ) (t : Bool) (k rest : ℕ) → 0 < k → k ≤ m → Below m rest → Below m (pick t rest k)
@@ -81,4 +88,11 @@ earlier m true k rest h l r = r
 earlier m false k rest h l r = (h, l)
 
 here : (k : ℕ) (t : Bool) (rest : ℕ) → 0 < k → t ≡ false → Below k (pick t rest k)
+here k true rest h e = absurd (true-not-false e)
 here k false rest h e = (h, omega arith)
+
+-- ---- the table
+
+module _ (mode E : ℕ) (s : Sender) (user commands lane : List ℕ) where
+  T₂ : Bool
+  T₂ = leb 1 E && leb E 256

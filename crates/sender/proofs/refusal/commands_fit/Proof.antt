@@ -13,17 +13,35 @@ use borrow.Author.Tests.{le-ltb, lt-ltb, ltb-true, ltb-false, eq-eqb, ne-eqb}
 use lib.ListN.{length, getD, set, take, drop, length-set, length-append, length-take, length-drop}
 use lib.Seq.{take-suc, take-suc-set, take-all}
 use denote.Ref.{now}
+use lib.ListN.{drop-of-length-le}
+use lib.Seq.{drop-cons}
+use Rattle.frame.specs.Modes.{Row, row}
+use Rattle.sender.specs.Refusal.{commandsFit}
 use Rattle.sender.proofs.refusal.commands_fit.Statement.{statement}
 use Rattle.sender.proofs.refusal.commands_fit.Tie as tie
 use Rattle.sender.proofs.refusal.commands_fit.Reads as reads
 use Rattle.sender.proofs.refusal.commands_fit.Lts as lts
 use Rattle.sender.proofs.refusal.command_bound.Reads as command-bound-reads
 
+-- the commands before place i fit, so that all fit exactly if those from there on do
+module _ (R : Row) (commands : List ℕ) (bound i : ℕ) (width : bound ≡ 2 ^ R .commandWidth) (so-far : commandsFit R commands ≡ commandsFit R (drop i commands)) where
+  found : i < length commands → bound ≤ getD commands i 0 → false ≡ commandsFit R commands
+  unfolding commandsFit
+  found h w = sym (so-far ∙ rw (drop-cons commands i 0, ← width, le-ltb (getD commands i 0) bound w))
+
+  passed : i < length commands → getD commands i 0 < bound → commandsFit R commands ≡ commandsFit R (drop (i + 1) commands)
+  unfolding commandsFit
+  passed h w = so-far ∙ rw (add-one, drop-cons commands i 0, ← width, lt-ltb (getD commands i 0) bound w)
+
+  ended : length commands ≤ i → true ≡ commandsFit R commands
+  unfolding commandsFit
+  ended h = sym (so-far ∙ rw (drop-of-length-le commands h))
+
 abbrev Inv-loop : tie.InvT-loop
-Inv-loop mode commands bound i₀ i = ?
+Inv-loop mode commands bound i₀ i = (i ≤ length commands) × (commandsFit (row mode) commands ≡ commandsFit (row mode) (drop i commands))
 
 abbrev μ-loop : tie.MeasureT-loop
-μ-loop mode commands bound i₀ i = ?
+μ-loop mode commands bound i₀ i = length commands - i
 
 -- src/refusal.rt:43:9
 command-bound-requires : tie.Need-command-bound-requires Inv-loop μ-loop
@@ -31,7 +49,7 @@ command-bound-requires c κs = search needs
 
 -- src/refusal.rt:45:5
 loop-holds : tie.Need-loop-holds Inv-loop μ-loop
-loop-holds c = search needs
+loop-holds c = (search needs, refl)
 
 -- src/refusal.rt:46:12
 mul-if1 : tie.Need-mul-if1 Inv-loop μ-loop
@@ -43,7 +61,10 @@ shared-slice-read-if1 c = search needs
 
 -- src/refusal.rt:47:13
 returns : tie.Need-returns Inv-loop μ-loop
-returns c = search needs
+returns c =
+    let a = c .before .before .before .before .before .before .args in
+    let l = c .before .before .before .loop in
+    found (row (a .mode)) (now (a .commands)) (c .before .before .before .before .command-bound .result) (l .i) (c .before .before .before .before .command-bound .ensures) (l .inv .1) (omega arith) (c .if1 .taken)
 
 -- src/refusal.rt:49:9
 add-i : tie.Need-add-i Inv-loop μ-loop
@@ -55,11 +76,17 @@ loop-less c = search needs
 
 -- src/refusal.rt:45:5
 loop-again : tie.Need-loop-again Inv-loop μ-loop
-loop-again c = search needs
+loop-again c =
+    let a = c .before .before .before .before .before .before .args in
+    let l = c .before .before .before .loop in
+    (search needs, passed (row (a .mode)) (now (a .commands)) (c .before .before .before .before .command-bound .result) (l .i) (c .before .before .before .before .command-bound .ensures) (l .inv .1) (omega arith) (c .if1 .left))
 
 -- src/refusal.rt:40:1
 returns-2 : tie.Need-returns-2 Inv-loop μ-loop
-returns-2 c = search needs
+returns-2 c =
+    let a = c .before .before .before .before .args in
+    let l = c .before .loop in
+    ended (row (a .mode)) (now (a .commands)) (c .before .before .command-bound .result) (l .i) (c .before .before .command-bound .ensures) (l .inv .1) (omega arith)
 
 pub commands-fit-spec : {M : Type 1} → statement M
 commands-fit-spec =

@@ -13,6 +13,7 @@ use borrow.Author.Tests.{le-ltb, lt-ltb, ltb-true, ltb-false, eq-eqb, ne-eqb}
 use lib.ListN.{length, getD, set, take, drop, length-set, length-append, length-take, length-drop}
 use lib.Seq.{take-suc, take-suc-set, take-all}
 use denote.Ref.{now}
+use Rattle.sender.specs.Refusal.{stateFits}
 use Rattle.sender.proofs.refusal.state_fits.Statement.{statement}
 use Rattle.sender.proofs.refusal.state_fits.Tie as tie
 use Rattle.sender.proofs.refusal.state_fits.Reads as reads
@@ -21,7 +22,8 @@ use Rattle.sender.proofs.refusal.parity_bound.Reads as parity-bound-rea
 
 -- src/refusal.rt:28:9
 returns : tie.Need-returns
-returns c = search needs
+unfolding stateFits
+returns c = simp (le-ltb _ _ (c .if1 .taken))
 
 -- src/refusal.rt:30:24
 parity-bound-requires : tie.Need-parity-bound-requires
@@ -29,15 +31,18 @@ parity-bound-requires c κs = search needs
 
 -- src/refusal.rt:31:9
 returns-2 : tie.Need-returns-2
-returns-2 c = search needs
+unfolding stateFits
+returns-2 c = simp (lt-ltb _ _ (c .before .before .before .if1 .left), sym (c .before .before .parity-bound .ensures), le-ltb _ _ (c .if2 .taken))
 
 -- src/refusal.rt:34:9
 returns-3 : tie.Need-returns-3
-returns-3 c = search needs
+unfolding stateFits
+returns-3 c = simp (lt-ltb _ _ (c .before .before .before .before .before .if1 .left), sym (c .before .before .before .before .parity-bound .ensures), lt-ltb _ _ (c .before .before .if2 .left), le-ltb _ _ (c .if3 .taken))
 
 -- src/refusal.rt:24:1
 returns-4 : tie.Need-returns-4
-returns-4 c = search needs
+unfolding stateFits
+returns-4 c = simp (lt-ltb _ _ (c .before .before .before .before .before .if1 .left), sym (c .before .before .before .before .parity-bound .ensures), lt-ltb _ _ (c .before .before .if2 .left), lt-ltb _ _ (c .if3 .left))
 
 pub state-fits-spec : {M : Type 1} → statement M
 state-fits-spec = tie.close (tie.spec returns parity-bound-requires returns-2 returns-3 returns-4)

@@ -13,6 +13,9 @@ use borrow.Author.Tests.{le-ltb, lt-ltb, ltb-true, ltb-false, eq-eqb, ne-eqb}
 use lib.ListN.{length, getD, set, take, drop, length-set, length-append, length-take, length-drop}
 use lib.Seq.{take-suc, take-suc-set, take-all}
 use denote.Ref.{now}
+use Rattle.parity.specs.Codeword.{Code, parityOf}
+use Rattle.frame.specs.Modes.{Row}
+use Rattle.frame.proofs.SyncWord.{fec-row, crc12-row}
 use Rattle.sender.proofs.run.parity_of.Statement.{statement}
 use Rattle.sender.proofs.run.parity_of.Tie as tie
 use Rattle.sender.proofs.run.parity_of.Reads as reads
@@ -26,7 +29,9 @@ of-requires c κs = search needs
 
 -- src/run.rt:18:9
 returns : tie.Need-returns
-returns c = search needs
+returns c =
+    let a = c .before .before .before .args in
+    c .of .ensures ∙ sym (ap (λ (R : Row). parityOf (R .code) (now (a .octets))) (fec-row (a .mode) (c .before .if1 .taken)))
 
 -- src/run.rt:20:5
 of-requires-2 : tie.Need-of-requires-2
@@ -34,7 +39,9 @@ of-requires-2 c κs = search needs
 
 -- src/run.rt:14:1
 returns-2 : tie.Need-returns-2
-returns-2 c = search needs
+returns-2 c =
+    let a = c .before .before .before .args in
+    c .of2 .ensures ∙ sym (ap (λ (R : Row). parityOf (R .code) (now (a .octets))) (crc12-row (a .mode) (c .before .if1 .left)))
 
 pub parity-of-spec : {M : Type 1} → statement M
 parity-of-spec = tie.close (tie.spec of-requires returns of-requires-2 returns-2)

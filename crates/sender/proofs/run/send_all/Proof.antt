@@ -13,6 +13,7 @@ use borrow.Author.Tests.{le-ltb, lt-ltb, ltb-true, ltb-false, eq-eqb, ne-eqb}
 use lib.ListN.{length, getD, set, take, drop, length-set, length-append, length-take, length-drop}
 use lib.Seq.{take-suc, take-suc-set, take-all}
 use denote.Ref.{now}
+use Rattle.sender.proofs.Turns.{Held, held-none, held-more, held-all}
 use Rattle.sender.proofs.run.send_all.Statement.{statement}
 use Rattle.sender.proofs.run.send_all.Tie as tie
 use Rattle.sender.proofs.run.send_all.Reads as reads
@@ -20,14 +21,16 @@ use Rattle.sender.proofs.run.send_all.Lts as lts
 use Rattle.sender.proofs.run.send_one.Reads as send-one-reads
 
 abbrev Inv-loop : tie.InvT-loop
-Inv-loop mode e user commands lane₀ count state₀ k₀ lane state k = ?
+Inv-loop mode e user commands lane₀ count state₀ k₀ lane state k = (k ≤ length commands) × Held mode e state₀ user commands lane₀ k state lane
 
 abbrev μ-loop : tie.MeasureT-loop
-μ-loop mode e user commands lane₀ count state₀ k₀ lane state k = ?
+μ-loop mode e user commands lane₀ count state₀ k₀ lane state k = length commands - k
 
 -- src/run.rt:65:5
 loop-holds : tie.Need-loop-holds Inv-loop μ-loop
-loop-holds c = search needs
+loop-holds c =
+    let a = c .before .before .before .args in
+    (search needs, held-none (a .mode) (a .e) (a .start) (now (a .user)) (now (a .commands)) (now (a .lane)) (c .before .before .before .pre .1 .0))
 
 -- src/run.rt:66:20
 mul-from : tie.Need-mul-from Inv-loop μ-loop
@@ -87,7 +90,15 @@ loop-less c = search needs
 
 -- src/run.rt:65:5
 loop-again : tie.Need-loop-again Inv-loop μ-loop
-loop-again c = search needs
+loop-again c =
+    let a = c .before .before .before .before .before .before .before .before .before .before .before .args in
+    let l = c .before .before .before .before .before .before .before .loop in
+    let one = c .before .before .send-one in
+    let w : 256 * l .k + 256 - 256 * l .k ≡ 256 = omega arith in (
+      search needs,
+      held-more (a .mode) (a .e) (a .start) (now (a .user)) (now (a .commands)) (now (a .lane)) (l .k) (l .state) (l .lane) (c .before .before .before .before .before .before .loop-test .taken) (c .before .before .before .before .before .before .before .before .before .before .before .pre .0 .2) (l .inv .1)
+          _ (one .result) _ (ap (λ (n : ℕ). take n (drop (256 * l .k) (now (a .user)))) w) (one .kept .1 .1 .1 .1 .1 .0) (one .ensures .0) (one .ensures .1),
+    )
 
 -- src/run.rt:50:1
 same-length : tie.Need-same-length Inv-loop μ-loop
@@ -95,7 +106,10 @@ same-length c = search needs
 
 -- src/run.rt:50:1
 returns : tie.Need-returns Inv-loop μ-loop
-returns c = search needs
+returns c =
+    let a = c .before .before .before .before .before .args in
+    let l = c .before .loop in
+    held-all (a .mode) (a .e) (a .start) (now (a .user)) (now (a .commands)) (now (a .lane)) (l .k) (l .state) (l .lane) (omega arith) (l .inv .1)
 
 pub send-all-spec : {M : Type 1} → statement M
 send-all-spec =

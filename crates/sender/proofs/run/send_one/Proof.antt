@@ -13,6 +13,7 @@ use borrow.Author.Tests.{le-ltb, lt-ltb, ltb-true, ltb-false, eq-eqb, ne-eqb}
 use lib.ListN.{length, getD, set, take, drop, length-set, length-append, length-take, length-drop}
 use lib.Seq.{take-suc, take-suc-set, take-all}
 use denote.Ref.{now}
+use Rattle.sender.proofs.Turns.{sent-one}
 use Rattle.sender.proofs.run.send_one.Statement.{statement}
 use Rattle.sender.proofs.run.send_one.Tie as tie
 use Rattle.sender.proofs.run.send_one.Reads as reads
@@ -65,7 +66,13 @@ same-length c = search needs
 
 -- src/run.rt:31:1
 returns : tie.Need-returns
-returns c = search needs
+returns c =
+    let a = c .before .before .before .before .before .before .before .before .before .before .before .before .before .before .before .args in
+    let pre = c .before .before .before .before .before .before .before .before .before .before .before .before .before .before .before .pre in
+    let turned = c .before .before .before .before .before .before .before .before .before .before .before .scramble-multiblock in
+    let written = c .before .before .before .before .before .write in
+    sent-one (a .mode) (a .e) (a .state) (now (a .user)) _ _ (now (a .lane)) _ (a .command) (turned .result .refusal) (turned .result .history) (c .before .before .before .before .before .before .before .before .word .result) (written .result) (c .before .parity-of .result) (c .number-after .result)
+    (pre .0) refl (pre .1) (turned .ensures .0) (turned .ensures .1 .0) (turned .ensures .1 .1) (c .before .before .before .before .before .before .before .before .word .ensures) (written .ensures .0) (written .ensures .1) (c .before .parity-of .ensures) (c .number-after .ensures)
 
 pub send-one-spec : {M : Type 1} → statement M
 send-one-spec =
