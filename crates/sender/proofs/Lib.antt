@@ -3,3 +3,4 @@ pub mod Runs
 pub mod States
 pub mod Given
 pub mod Turns
+pub mod Entry

@@ -13,6 +13,7 @@ use borrow.Author.Tests.{le-ltb, lt-ltb, ltb-true, ltb-false, eq-eqb, ne-eqb}
 use lib.ListN.{length, getD, set, take, drop, length-set, length-append, length-take, length-drop}
 use lib.Seq.{take-suc, take-suc-set, take-all}
 use denote.Ref.{now}
+use Rattle.sender.proofs.Entry.{is-refused, accepted-run, is-sent}
 use Rattle.sender.proofs.send.Statement.{statement}
 use Rattle.sender.proofs.send.Tie as tie
 use Rattle.sender.proofs.send.Reads as reads
@@ -30,11 +31,15 @@ same-length c = search needs
 
 -- src/lib.rt:42:9
 returns : tie.Need-returns
-returns c = search needs
+returns c =
+    let a = c .before .before .before .before .before .before .args in
+    is-refused (a .mode) (a .e) (a .state) (now (a .user)) (now (a .commands)) (now (a .lane)) (c .before .refusal-of .result) (c .before .refusal-of .ensures) (c .if1 .taken)
 
 -- src/lib.rt:48:9
 send-all-requires : tie.Need-send-all-requires
-send-all-requires c κs = search needs
+send-all-requires c κs =
+    let a = c .before .before .before .before .before .before .before .args in
+    accepted-run (a .mode) (a .e) (a .state) (now (a .user)) (now (a .commands)) (now (a .lane)) (c .before .before .refusal-of .result) (c .before .before .refusal-of .ensures) (c .before .if1 .left)
 
 -- src/lib.rt:37:1
 same-length-2 : tie.Need-same-length-2
@@ -42,7 +47,10 @@ same-length-2 c = search needs
 
 -- src/lib.rt:37:1
 returns-2 : tie.Need-returns-2
-returns-2 c = search needs
+returns-2 c =
+    let a = c .before .before .before .before .before .before .before .before .before .before .args in
+    let all = c .before .before .send-all in
+    is-sent (a .mode) (a .e) (a .state) (now (a .user)) (now (a .commands)) (now (a .lane)) (c .before .before .before .before .before .refusal-of .result) (c .before .before .before .before .before .refusal-of .ensures) (c .before .before .before .before .if1 .left) (all .result) _ (all .ensures .0) (all .ensures .1)
 
 pub send-spec : {M : Type 1} → statement M
 send-spec =
