@@ -1,5 +1,5 @@
 -- What the rows of all modes have in common, and how many octets scrambling and a multiblock make: document 01, "From octets to lane bits". Assumes nothing.
-use mathlib.Core.Path.{_≡_, refl, ap}
+use mathlib.Core.Path.{_≡_, refl}
 use mathlib.Core.Bool.{Bool, true, false}
 use mathlib.Core.List.{List}
 use Prim.Native.Nat.{ℕ}

@@ -1,6 +1,6 @@
 -- A call whole: what an accepted one may rely on, its two answers, and that the state it returns is accepted again.
 -- Document 01, "Numbers of refusal". Assumes nothing.
-use mathlib.Core.Path.{_≡_, refl, sym, ap, ap₂, _∙_, subst}
+use mathlib.Core.Path.{_≡_, refl, sym, _∙_}
 use mathlib.Core.Bool.{Bool, true, false}
 use mathlib.Core.List.{List}
 use Prim.Native.Nat.{ℕ, _*_, _/_, _%_, _^_, _≤_, _<_}
@@ -9,15 +9,12 @@ use native.Mathlib.Omega.{arith}
 use borrow.Author.Tests.{eqb-true, eqb-false, eq-eqb, ne-eqb}
 use lib.Dec.{eqb}
 use lib.ListN.{length}
-use Rattle.bits.specs.Choice.{pick}
 use Rattle.bits.specs.Order.{laid}
-use Rattle.parity.specs.Codeword.{Code}
-use Rattle.frame.specs.Modes.{Row, row}
+use Rattle.frame.specs.Modes.{row}
 use Rattle.sender.specs.declared.Sender.{Sender}
-use Rattle.sender.specs.declared.Sent.{Sent}
 use Rattle.sender.specs.Lane.{lane, after}
 use Rattle.sender.specs.Refusal.{stateFits, refusalOf}
-use Rattle.sender.specs.Entry.{Done, done, entry}
+use Rattle.sender.specs.Entry.{done, entry}
 use Rattle.sender.proofs.States.{Fits, in-range, fitting, accepted-again}
 use Rattle.sender.proofs.Given.{Applies, too-many-blocks, wide-history, wide-parity, high-number, part-octets, too-many, other-count, short-lane, only-when, accepted-only}
 

@@ -1,22 +1,21 @@
 -- Each number of refusal is given exactly when its line of the table applies and no lower line does: document 01, "Numbers of refusal".
 -- Assumes nothing.
-use mathlib.Core.Path.{_≡_, refl, sym, ap, _∙_, subst}
+use mathlib.Core.Path.{_≡_, refl, subst}
 use mathlib.Core.Logic.{_⊎_, inl, inr}
 use mathlib.Core.Bool.{Bool, true, false, _&&_}
 use mathlib.Core.List.{List, [], _∷_}
-use Prim.Native.Nat.{ℕ, zero, suc, _+_, _*_, _/_, _%_, _^_, _≤_, _<_}
+use Prim.Native.Nat.{ℕ, zero, suc, _*_, _/_, _%_, _^_, _≤_, _<_}
 use native.Mathlib.Omega.{arith}
-use borrow.Author.Tests.{ltb-true, ltb-false, leb-true, leb-false, eqb-true, eqb-false, lt-ltb, le-ltb, lt-leb, ne-eqb}
+use borrow.Author.Tests.{ltb-true, ltb-false, leb-false, eqb-false, lt-ltb, le-ltb, lt-leb, ne-eqb}
 use lib.Dec.{ltb, leb, eqb}
 use lib.ListN.{length, getD}
 use Rattle.bits.specs.Choice.{pick}
-use Rattle.parity.specs.Codeword.{Code}
 use Rattle.frame.specs.Modes.{Row, row}
 use Rattle.frame.specs.Lane.{laneOctets}
 use Rattle.frame.proofs.Sizes.{row-most, row-octets}
 use Rattle.sender.specs.declared.Sender.{Sender}
 use Rattle.sender.specs.Refusal.{stateFits, commandsFit, refusalOf}
-use Rattle.sender.proofs.States.{Fits, in-range}
+use Rattle.sender.proofs.States.{in-range}
 
 -- the lines of the table, of one call
 pub data Applies (mode E : ℕ) (s : Sender) (user commands lane : List ℕ) : ℕ → Type 0 where

@@ -2,15 +2,14 @@
 -- Document 01, "From octets to lane bits". Assumes nothing.
 use mathlib.Core.Path.{_≡_, refl, sym, ap, ap₂, _∙_}
 use mathlib.Core.List.{List, [], _∷_, _++_, append-assoc, append-nil}
-use Prim.Native.Nat.{ℕ, suc, _+_, _*_, _≤_, _<_}
+use Prim.Native.Nat.{ℕ, suc, _+_, _*_, _≤_}
 use native.Mathlib.Nat.{mul-suc, add-comm}
 use native.Mathlib.Omega.{arith}
-use native.Mathlib.Numerals.{add-one}
-use lib.ListN.{length, getD, take, drop, length-append, length-drop}
-use lib.Seq.{take-suc, drop-drop, drop-at, take-append-le, drop-append-le, length-take-le}
+use lib.ListN.{length, take, drop, length-append, length-drop}
+use lib.Seq.{drop-drop, drop-at, take-append-le, drop-append-le}
 use Rattle.bits.specs.Choice.{bitOf}
 use Rattle.frame.specs.Modes.{Row}
-use Rattle.frame.specs.Lane.{laneOctets, multiblock}
+use Rattle.frame.specs.Lane.{laneOctets}
 use Rattle.frame.specs.SyncWord.{syncWord}
 use Rattle.frame.specs.Scrambling.{scrambled}
 use Rattle.frame.proofs.Sizes.{length-multiblock}

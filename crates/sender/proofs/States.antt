@@ -1,6 +1,6 @@
 -- Every state that an accepted call returns is accepted by the next call of that mode and E, and so is a fresh one:
 -- document 01, "Numbers of refusal", line 3. Assumes nothing.
-use mathlib.Core.Path.{_≡_, refl, sym, ap, ap₂, _∙_, subst}
+use mathlib.Core.Path.{_≡_, refl}
 use mathlib.Core.Bool.{Bool, true, false, _&&_}
 use mathlib.Core.List.{List, [], _∷_}
 use Prim.Native.Nat.{ℕ, _+_, _^_, _≤_, _<_}
@@ -11,7 +11,6 @@ use lib.ListN.{take, drop}
 use lib.Pow.{pow-pos}
 use Rattle.bits.specs.Choice.{pick}
 use Rattle.bits.specs.Order.{bitAt}
-use Rattle.parity.specs.Codeword.{Code}
 use Rattle.parity.proofs.Bursts.{Proper}
 use Rattle.parity.proofs.Codeword.{parity-lt}
 use Rattle.frame.specs.Modes.{Row, row}
@@ -19,7 +18,7 @@ use Rattle.frame.specs.Scrambling.{scrambled}
 use Rattle.frame.proofs.Scrambling.{history-lt}
 use Rattle.frame.proofs.Sizes.{row-proper}
 use Rattle.sender.specs.declared.Sender.{Sender}
-use Rattle.sender.specs.Lane.{fresh, last, afterOne, after}
+use Rattle.sender.specs.Lane.{fresh, afterOne, after}
 use Rattle.sender.specs.Refusal.{stateFits}
 
 -- each field in its range

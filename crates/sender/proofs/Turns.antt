@@ -15,7 +15,7 @@ use Rattle.bits.specs.Order.{bitAt, laid}
 use Rattle.bits.proofs.Laid.{laid-part, laid-all}
 use Rattle.parity.specs.Codeword.{parityOf}
 use Rattle.frame.specs.Modes.{Row, row}
-use Rattle.frame.specs.Lane.{laneOctets, multiblock}
+use Rattle.frame.specs.Lane.{multiblock}
 use Rattle.frame.specs.SyncWord.{syncWord}
 use Rattle.frame.specs.Scrambling.{scrambled, historyAfter}
 use Rattle.frame.specs.Parts.{written}

@@ -3,7 +3,6 @@ ghost use mathlib.Core.Path.{_≡_};
 ghost use Prim.Native.Nat.{_^_};
 ghost use Rattle.frame.specs.Modes.{row};
 ghost use Rattle.sender.specs.Refusal.{stateFits, commandsFit, refusalOf};
-
 use crate::Sender;
 
 // The first number that is wider than the mode's parity.
@@ -81,13 +80,14 @@ pub(crate) fn refusal_of(
     if count > 240 {
         return 5;
     }
+    let octets = 264 * count;
     if commands.len() != count {
         return 6;
     }
     if !commands_fit(mode, commands) {
         return 6;
     }
-    if 264 * count > lane.len() {
+    if octets > lane.len() {
         return 7;
     }
     0

@@ -7,7 +7,6 @@ ghost use Rattle.bits.specs.Order.{laid};
 ghost use Rattle.parity.specs.Codeword.{parityOf};
 ghost use Rattle.frame.specs.Modes.{row};
 ghost use Rattle.sender.specs.Lane.{sentOne, afterOne, lane as sentAll, after};
-
 use crate::Sender;
 
 // The parity of some octets.
@@ -35,13 +34,14 @@ fn send_one(mode: u8, e: u32, state: Sender, user: &[u8], command: u32, lane: &m
 {
     let mut octets = [0u8; 256];
     let turned = frame::scrambler::scramble_multiblock(user, state.history, &mut octets[..]);
+    let parity = parity_of(mode, &octets[..]);
     let next = state.number + 1;
     let last = next == e;
     let sync = frame::sync::word(mode, state.parity, command, last);
     frame::multiblock::write(sync, &octets[..], lane);
     Sender {
         history: turned.history,
-        parity: parity_of(mode, &octets[..]),
+        parity,
         number: number_after(last, next),
     }
 }

@@ -1,17 +1,14 @@
 -- `sender::refusal::commands_fit` meets its contract.
 -- Assumes nothing.
 use borrow.Author.Needs.{needs}
-use Prim.Native.Nat.{ℕ, suc, _+_, _-_, _*_, _/_, _%_, _^_, _≤_, _<_}
-use mathlib.Core.Path.{_≡_, refl, sym, ap, _∙_, subst}
-use mathlib.Core.List.{List, [], _∷_, _++_}
-use mathlib.Core.Bool.{Bool, true, false}
-use mathlib.Core.Logic.{⊎-elim}
+use Prim.Native.Nat.{ℕ, _+_, _-_, _^_, _≤_, _<_}
+use mathlib.Core.Path.{_≡_, refl, sym, _∙_}
+use mathlib.Core.List.{List}
+use mathlib.Core.Bool.{true, false}
 use native.Mathlib.Numerals.{add-one}
 use native.Mathlib.Omega.{arith}
-use borrow.Author.Count.{below-more}
-use borrow.Author.Tests.{le-ltb, lt-ltb, ltb-true, ltb-false, eq-eqb, ne-eqb}
-use lib.ListN.{length, getD, set, take, drop, length-set, length-append, length-take, length-drop}
-use lib.Seq.{take-suc, take-suc-set, take-all}
+use borrow.Author.Tests.{le-ltb, lt-ltb}
+use lib.ListN.{length, getD, drop}
 use denote.Ref.{now}
 use lib.ListN.{drop-of-length-le}
 use lib.Seq.{drop-cons}
@@ -19,9 +16,6 @@ use Rattle.frame.specs.Modes.{Row, row}
 use Rattle.sender.specs.Refusal.{commandsFit}
 use Rattle.sender.proofs.refusal.commands_fit.Statement.{statement}
 use Rattle.sender.proofs.refusal.commands_fit.Tie as tie
-use Rattle.sender.proofs.refusal.commands_fit.Reads as reads
-use Rattle.sender.proofs.refusal.commands_fit.Lts as lts
-use Rattle.sender.proofs.refusal.command_bound.Reads as command-bound-reads
 
 -- the commands before place i fit, so that all fit exactly if those from there on do
 module _ (R : Row) (commands : List ℕ) (bound i : ℕ) (width : bound ≡ 2 ^ R .commandWidth) (so-far : commandsFit R commands ≡ commandsFit R (drop i commands)) where
@@ -43,45 +37,36 @@ Inv-loop mode commands bound i₀ i = (i ≤ length commands) × (commandsFit (r
 abbrev μ-loop : tie.MeasureT-loop
 μ-loop mode commands bound i₀ i = length commands - i
 
--- src/refusal.rt:43:9
 command-bound-requires : tie.Need-command-bound-requires Inv-loop μ-loop
 command-bound-requires c κs = search needs
 
--- src/refusal.rt:45:5
 loop-holds : tie.Need-loop-holds Inv-loop μ-loop
 loop-holds c = (search needs, refl)
 
--- src/refusal.rt:46:12
 mul-if1 : tie.Need-mul-if1 Inv-loop μ-loop
 mul-if1 c = search needs
 
--- src/refusal.rt:46:12
 shared-slice-read-if1 : tie.Need-shared-slice-read-if1 Inv-loop μ-loop
 shared-slice-read-if1 c = search needs
 
--- src/refusal.rt:47:13
 returns : tie.Need-returns Inv-loop μ-loop
 returns c =
     let a = c .before .before .before .before .before .before .args in
     let l = c .before .before .before .loop in
     found (row (a .mode)) (now (a .commands)) (c .before .before .before .before .command-bound .result) (l .i) (c .before .before .before .before .command-bound .ensures) (l .inv .1) (omega arith) (c .if1 .taken)
 
--- src/refusal.rt:49:9
 add-i : tie.Need-add-i Inv-loop μ-loop
 add-i c = search needs
 
--- src/refusal.rt:45:5
 loop-less : tie.Need-loop-less Inv-loop μ-loop
 loop-less c = search needs
 
--- src/refusal.rt:45:5
 loop-again : tie.Need-loop-again Inv-loop μ-loop
 loop-again c =
     let a = c .before .before .before .before .before .before .args in
     let l = c .before .before .before .loop in
     (search needs, passed (row (a .mode)) (now (a .commands)) (c .before .before .before .before .command-bound .result) (l .i) (c .before .before .before .before .command-bound .ensures) (l .inv .1) (omega arith) (c .if1 .left))
 
--- src/refusal.rt:40:1
 returns-2 : tie.Need-returns-2 Inv-loop μ-loop
 returns-2 c =
     let a = c .before .before .before .before .args in

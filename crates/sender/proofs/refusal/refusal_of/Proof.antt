@@ -1,86 +1,58 @@
 -- `sender::refusal::refusal_of` meets its contract.
 -- Assumes nothing.
 use borrow.Author.Needs.{needs}
-use Prim.Native.Nat.{ℕ, suc, _+_, _-_, _*_, _/_, _%_, _^_, _≤_, _<_}
-use mathlib.Core.Path.{_≡_, refl, sym, ap, _∙_, subst}
-use mathlib.Core.List.{List, [], _∷_, _++_}
-use mathlib.Core.Bool.{Bool, true, false}
-use mathlib.Core.Logic.{⊎-elim}
-use native.Mathlib.Numerals.{add-one}
-use native.Mathlib.Omega.{arith}
-use borrow.Author.Count.{below-more}
-use borrow.Author.Tests.{le-ltb, lt-ltb, ltb-true, ltb-false, eq-eqb, ne-eqb}
-use lib.ListN.{length, getD, set, take, drop, length-set, length-append, length-take, length-drop}
-use lib.Seq.{take-suc, take-suc-set, take-all}
-use denote.Ref.{now}
-use borrow.Author.Tests.{le-leb, lt-leb, not-true, not-false}
+use mathlib.Core.Path.{sym, _∙_}
+use borrow.Author.Tests.{le-ltb, lt-ltb, le-leb, lt-leb, eq-eqb, ne-eqb, not-true, not-false}
 use Rattle.frame.proofs.Sizes.{row-most, row-octets}
 use Rattle.sender.specs.Refusal.{refusalOf}
 use Rattle.sender.proofs.refusal.refusal_of.Statement.{statement}
 use Rattle.sender.proofs.refusal.refusal_of.Tie as tie
-use Rattle.sender.proofs.refusal.refusal_of.Reads as reads
-use Rattle.sender.proofs.refusal.refusal_of.Lts as lts
-use Rattle.sender.proofs.refusal.commands_fit.Reads as commands-fit-reads
-use Rattle.sender.proofs.refusal.state_fits.Reads as state-fits-reads
 
--- src/refusal.rt:66:9
 returns : tie.Need-returns
 unfolding refusalOf
 returns c = simp (lt-ltb _ _ (c .if1 .taken))
 
--- src/refusal.rt:69:9
 returns-2 : tie.Need-returns-2
 unfolding refusalOf
 returns-2 c = simp (le-ltb _ _ (c .before .if1 .left), lt-leb _ _ (c .if2 .taken))
 
--- src/refusal.rt:72:9
 returns-3 : tie.Need-returns-3
 unfolding refusalOf
 returns-3 c = simp (le-ltb _ _ (c .before .before .if1 .left), le-leb _ _ (c .before .if2 .left), lt-leb _ _ (c .if3 .taken))
 
--- src/refusal.rt:74:9
 state-fits-requires : tie.Need-state-fits-requires
 state-fits-requires c κs = search needs
 
--- src/refusal.rt:75:9
 returns-4 : tie.Need-returns-4
 unfolding refusalOf
 returns-4 c = simp (le-ltb _ _ (c .before .before .before .before .if1 .left), le-leb _ _ (c .before .before .before .if2 .left), le-leb _ _ (c .before .before .if3 .left), sym (c .before .state-fits .ensures) ∙ not-true _ (c .if4 .taken))
 
--- src/refusal.rt:78:9
 returns-5 : tie.Need-returns-5
 unfolding refusalOf
 returns-5 c = simp (le-ltb _ _ (c .before .before .before .before .before .if1 .left), le-leb _ _ (c .before .before .before .before .if2 .left), le-leb _ _ (c .before .before .before .if3 .left), sym (c .before .before .state-fits .ensures) ∙ not-false _ (c .before .if4 .left), ne-eqb _ _ (c .if5 .taken))
 
--- src/refusal.rt:82:9
 returns-6 : tie.Need-returns-6
 unfolding refusalOf
 returns-6 c = simp (row-most (c .before .before .before .before .before .before .before .before .before .before .args .mode), le-ltb _ _ (c .before .before .before .before .before .before .if1 .left), le-leb _ _ (c .before .before .before .before .before .if2 .left), le-leb _ _ (c .before .before .before .before .if3 .left), sym (c .before .before .before .state-fits .ensures) ∙ not-false _ (c .before .before .if4 .left), eq-eqb _ _ (c .before .if5 .left), lt-leb _ _ (c .if6 .taken))
 
--- src/refusal.rt:85:9
+mul-octets : tie.Need-mul-octets
+mul-octets c = search needs
+
 returns-7 : tie.Need-returns-7
 unfolding refusalOf
 returns-7 c = simp (row-most (c .before .before .before .before .before .before .before .before .before .before .before .args .mode), le-ltb _ _ (c .before .before .before .before .before .before .before .if1 .left), le-leb _ _ (c .before .before .before .before .before .before .if2 .left), le-leb _ _ (c .before .before .before .before .before .if3 .left), sym (c .before .before .before .before .state-fits .ensures) ∙ not-false _ (c .before .before .before .if4 .left), eq-eqb _ _ (c .before .before .if5 .left), le-leb _ _ (c .before .if6 .left), ne-eqb _ _ (c .if7 .taken))
 
--- src/refusal.rt:87:9
 commands-fit-requires : tie.Need-commands-fit-requires
 commands-fit-requires c κs = search needs
 
--- src/refusal.rt:88:9
 returns-8 : tie.Need-returns-8
 unfolding refusalOf
 returns-8 c = simp (row-most (c .before .before .before .before .before .before .before .before .before .before .before .before .before .args .mode), le-ltb _ _ (c .before .before .before .before .before .before .before .before .before .if1 .left), le-leb _ _ (c .before .before .before .before .before .before .before .before .if2 .left), le-leb _ _ (c .before .before .before .before .before .before .before .if3 .left), sym (c .before .before .before .before .before .before .state-fits .ensures) ∙ not-false _ (c .before .before .before .before .before .if4 .left), eq-eqb _ _ (c .before .before .before .before .if5 .left), le-leb _ _ (c .before .before .before .if6 .left), eq-eqb _ _ (c .before .before .if7 .left), sym (c .before .commands-fit .ensures) ∙ not-true _ (c .if8 .taken))
 
--- src/refusal.rt:90:8
-mul-if9 : tie.Need-mul-if9
-mul-if9 c = search needs
-
--- src/refusal.rt:91:9
 returns-9 : tie.Need-returns-9
 unfolding refusalOf
 returns-9 c = simp (row-octets (c .before .before .before .before .before .before .before .before .before .before .before .before .before .before .args .mode), row-most (c .before .before .before .before .before .before .before .before .before .before .before .before .before .before .args .mode), le-ltb _ _ (c .before .before .before .before .before .before .before .before .before .before .if1 .left), le-leb _ _ (c .before .before .before .before .before .before .before .before .before .if2 .left), le-leb _ _ (c .before .before .before .before .before .before .before .before .if3 .left), sym (c .before .before .before .before .before .before .before .state-fits .ensures) ∙ not-false _ (c .before .before .before .before .before .before .if4 .left), eq-eqb _ _ (c .before .before .before .before .before .if5 .left), le-leb _ _ (c .before .before .before .before .if6 .left), eq-eqb _ _ (c .before .before .before .if7 .left), sym (c .before .before .commands-fit .ensures) ∙ not-false _ (c .before .if8 .left), lt-leb _ _ (c .if9 .taken))
 
--- src/refusal.rt:55:1
 returns-10 : tie.Need-returns-10
 unfolding refusalOf
 returns-10 c = simp (row-octets (c .before .before .before .before .before .before .before .before .before .before .before .before .before .before .args .mode), row-most (c .before .before .before .before .before .before .before .before .before .before .before .before .before .before .args .mode), le-ltb _ _ (c .before .before .before .before .before .before .before .before .before .before .if1 .left), le-leb _ _ (c .before .before .before .before .before .before .before .before .before .if2 .left), le-leb _ _ (c .before .before .before .before .before .before .before .before .if3 .left), sym (c .before .before .before .before .before .before .before .state-fits .ensures) ∙ not-false _ (c .before .before .before .before .before .before .if4 .left), eq-eqb _ _ (c .before .before .before .before .before .if5 .left), le-leb _ _ (c .before .before .before .before .if6 .left), eq-eqb _ _ (c .before .before .before .if7 .left), sym (c .before .before .commands-fit .ensures) ∙ not-false _ (c .before .if8 .left), le-leb _ _ (c .if9 .left))
@@ -96,9 +68,9 @@ refusal-of-spec =
     returns-4
     returns-5
     returns-6
+    mul-octets
     returns-7
     commands-fit-requires
     returns-8
-    mul-if9
     returns-9
     returns-10)

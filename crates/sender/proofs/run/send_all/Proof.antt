@@ -1,24 +1,14 @@
 -- `sender::run::send_all` meets its contract.
 -- Assumes nothing.
 use borrow.Author.Needs.{needs}
-use Prim.Native.Nat.{ℕ, suc, _+_, _-_, _*_, _/_, _%_, _^_, _≤_, _<_}
-use mathlib.Core.Path.{_≡_, refl, sym, ap, _∙_, subst}
-use mathlib.Core.List.{List, [], _∷_, _++_}
-use mathlib.Core.Bool.{Bool, true, false}
-use mathlib.Core.Logic.{⊎-elim}
-use native.Mathlib.Numerals.{add-one}
+use Prim.Native.Nat.{ℕ, _+_, _-_, _*_, _≤_}
+use mathlib.Core.Path.{_≡_, ap}
 use native.Mathlib.Omega.{arith}
-use borrow.Author.Count.{below-more}
-use borrow.Author.Tests.{le-ltb, lt-ltb, ltb-true, ltb-false, eq-eqb, ne-eqb}
-use lib.ListN.{length, getD, set, take, drop, length-set, length-append, length-take, length-drop}
-use lib.Seq.{take-suc, take-suc-set, take-all}
+use lib.ListN.{length, take, drop}
 use denote.Ref.{now}
 use Rattle.sender.proofs.Turns.{Held, held-none, held-more, held-all}
 use Rattle.sender.proofs.run.send_all.Statement.{statement}
 use Rattle.sender.proofs.run.send_all.Tie as tie
-use Rattle.sender.proofs.run.send_all.Reads as reads
-use Rattle.sender.proofs.run.send_all.Lts as lts
-use Rattle.sender.proofs.run.send_one.Reads as send-one-reads
 
 abbrev Inv-loop : tie.InvT-loop
 Inv-loop mode e user commands lane₀ count state₀ k₀ lane state k = (k ≤ length commands) × Held mode e state₀ user commands lane₀ k state lane
@@ -26,69 +16,53 @@ Inv-loop mode e user commands lane₀ count state₀ k₀ lane state k = (k ≤ 
 abbrev μ-loop : tie.MeasureT-loop
 μ-loop mode e user commands lane₀ count state₀ k₀ lane state k = length commands - k
 
--- src/run.rt:65:5
 loop-holds : tie.Need-loop-holds Inv-loop μ-loop
 loop-holds c =
     let a = c .before .before .before .args in
     (search needs, held-none (a .mode) (a .e) (a .start) (now (a .user)) (now (a .commands)) (now (a .lane)) (c .before .before .before .pre .1 .0))
 
--- src/run.rt:66:20
 mul-from : tie.Need-mul-from Inv-loop μ-loop
 mul-from c = search needs
 
--- src/run.rt:67:20
 add-upto : tie.Need-add-upto Inv-loop μ-loop
 add-upto c = search needs
 
--- src/run.rt:68:18
 mul-at : tie.Need-mul-at Inv-loop μ-loop
 mul-at c = search needs
 
--- src/run.rt:73:13
 sub-send-one : tie.Need-sub-send-one Inv-loop μ-loop
 sub-send-one c = search needs
 
--- src/run.rt:73:13
 part-send-one-start : tie.Need-part-send-one-start Inv-loop μ-loop
 part-send-one-start c = search needs
 
--- src/run.rt:73:13
 part-send-one-end : tie.Need-part-send-one-end Inv-loop μ-loop
 part-send-one-end c = search needs
 
--- src/run.rt:74:13
 mul-send-one : tie.Need-mul-send-one Inv-loop μ-loop
 mul-send-one c = search needs
 
--- src/run.rt:74:13
 shared-slice-read-send-one : tie.Need-shared-slice-read-send-one Inv-loop μ-loop
 shared-slice-read-send-one c = search needs
 
--- src/run.rt:75:13
 sub-send-one-2 : tie.Need-sub-send-one-2 Inv-loop μ-loop
 sub-send-one-2 c = search needs
 
--- src/run.rt:75:13
 part-send-one-start-2 : tie.Need-part-send-one-start-2 Inv-loop μ-loop
 part-send-one-start-2 c = search needs
 
--- src/run.rt:75:13
 part-send-one-end-2 : tie.Need-part-send-one-end-2 Inv-loop μ-loop
 part-send-one-end-2 c = search needs
 
--- src/run.rt:69:9
 send-one-requires : tie.Need-send-one-requires Inv-loop μ-loop
 send-one-requires c κs = search needs
 
--- src/run.rt:65:9
 add-k : tie.Need-add-k Inv-loop μ-loop
 add-k c = search needs
 
--- src/run.rt:65:5
 loop-less : tie.Need-loop-less Inv-loop μ-loop
 loop-less c = search needs
 
--- src/run.rt:65:5
 loop-again : tie.Need-loop-again Inv-loop μ-loop
 loop-again c =
     let a = c .before .before .before .before .before .before .before .before .before .before .before .args in
@@ -100,11 +74,9 @@ loop-again c =
           _ (one .result) _ (ap (λ (n : ℕ). take n (drop (256 * l .k) (now (a .user)))) w) (one .kept .1 .1 .1 .1 .1 .0) (one .ensures .0) (one .ensures .1),
     )
 
--- src/run.rt:50:1
 same-length : tie.Need-same-length Inv-loop μ-loop
 same-length c = search needs
 
--- src/run.rt:50:1
 returns : tie.Need-returns Inv-loop μ-loop
 returns c =
     let a = c .before .before .before .before .before .args in
