@@ -1,6 +1,9 @@
 // What a call is refused for: document 01, "Numbers of refusal". The lowest number is found first.
 ghost use mathlib.Core.Path.{_≡_};
+ghost use mathlib.Core.Bool.{_&&_};
 ghost use Prim.Native.Nat.{_^_};
+ghost use lib.Dec.{eqb};
+ghost use lib.ListN.{length};
 ghost use Rattle.frame.specs.Modes.{row};
 ghost use Rattle.sender.specs.Refusal.{stateFits, commandsFit, refusalOf};
 use crate::Sender;
@@ -36,7 +39,7 @@ fn state_fits(mode: u8, e: u32, state: Sender) -> bool
 }
 
 // Whether each command fits the mode's command width.
-fn commands_fit(mode: u8, commands: &[u32]) -> bool
+fn each_fits(mode: u8, commands: &[u32]) -> bool
     ensures { λ r. ⌜ r ≡ commandsFit (row mode) (now (commands .entry)) ⌝ }
 {
     let bound = command_bound(mode);
@@ -48,6 +51,16 @@ fn commands_fit(mode: u8, commands: &[u32]) -> bool
         i += 1;
     }
     true
+}
+
+// Whether there is one command for each multiblock, and each fits.
+fn commands_fit(mode: u8, commands: &[u32], count: usize) -> bool
+    ensures { λ r. ⌜ r ≡ (eqb (length (now (commands .entry))) count && commandsFit (row mode) (now (commands .entry))) ⌝ }
+{
+    if commands.len() != count {
+        return false;
+    }
+    each_fits(mode, commands)
 }
 
 // The lowest number that applies, or 0.
@@ -81,10 +94,8 @@ pub(crate) fn refusal_of(
         return 5;
     }
     let octets = 264 * count;
-    if commands.len() != count {
-        return 6;
-    }
-    if !commands_fit(mode, commands) {
+    let fit = commands_fit(mode, commands, count);
+    if !fit {
         return 6;
     }
     if octets > lane.len() {

@@ -38,24 +38,20 @@ returns-6 c = simp (row-most (c .before .before .before .before .before .before 
 mul-octets : tie.Need-mul-octets
 mul-octets c = search needs
 
-returns-7 : tie.Need-returns-7
-unfolding refusalOf
-returns-7 c = simp (row-most (c .before .before .before .before .before .before .before .before .before .before .before .args .mode), le-ltb _ _ (c .before .before .before .before .before .before .before .if1 .left), le-leb _ _ (c .before .before .before .before .before .before .if2 .left), le-leb _ _ (c .before .before .before .before .before .if3 .left), sym (c .before .before .before .before .state-fits .ensures) ∙ not-false _ (c .before .before .before .if4 .left), eq-eqb _ _ (c .before .before .if5 .left), le-leb _ _ (c .before .if6 .left), ne-eqb _ _ (c .if7 .taken))
-
 commands-fit-requires : tie.Need-commands-fit-requires
 commands-fit-requires c κs = search needs
 
+returns-7 : tie.Need-returns-7
+unfolding refusalOf
+returns-7 c = simp (row-most (c .before .before .before .before .before .before .before .before .before .before .before .before .args .mode), le-ltb _ _ (c .before .before .before .before .before .before .before .before .if1 .left), le-leb _ _ (c .before .before .before .before .before .before .before .if2 .left), le-leb _ _ (c .before .before .before .before .before .before .if3 .left), sym (c .before .before .before .before .before .state-fits .ensures) ∙ not-false _ (c .before .before .before .before .if4 .left), eq-eqb _ _ (c .before .before .before .if5 .left), le-leb _ _ (c .before .before .if6 .left), sym (c .before .commands-fit .ensures) ∙ not-true _ (c .if7 .taken))
+
 returns-8 : tie.Need-returns-8
 unfolding refusalOf
-returns-8 c = simp (row-most (c .before .before .before .before .before .before .before .before .before .before .before .before .before .args .mode), le-ltb _ _ (c .before .before .before .before .before .before .before .before .before .if1 .left), le-leb _ _ (c .before .before .before .before .before .before .before .before .if2 .left), le-leb _ _ (c .before .before .before .before .before .before .before .if3 .left), sym (c .before .before .before .before .before .before .state-fits .ensures) ∙ not-false _ (c .before .before .before .before .before .if4 .left), eq-eqb _ _ (c .before .before .before .before .if5 .left), le-leb _ _ (c .before .before .before .if6 .left), eq-eqb _ _ (c .before .before .if7 .left), sym (c .before .commands-fit .ensures) ∙ not-true _ (c .if8 .taken))
+returns-8 c = simp (row-octets (c .before .before .before .before .before .before .before .before .before .before .before .before .before .args .mode), row-most (c .before .before .before .before .before .before .before .before .before .before .before .before .before .args .mode), le-ltb _ _ (c .before .before .before .before .before .before .before .before .before .if1 .left), le-leb _ _ (c .before .before .before .before .before .before .before .before .if2 .left), le-leb _ _ (c .before .before .before .before .before .before .before .if3 .left), sym (c .before .before .before .before .before .before .state-fits .ensures) ∙ not-false _ (c .before .before .before .before .before .if4 .left), eq-eqb _ _ (c .before .before .before .before .if5 .left), le-leb _ _ (c .before .before .before .if6 .left), sym (c .before .before .commands-fit .ensures) ∙ not-false _ (c .before .if7 .left), lt-leb _ _ (c .if8 .taken))
 
 returns-9 : tie.Need-returns-9
 unfolding refusalOf
-returns-9 c = simp (row-octets (c .before .before .before .before .before .before .before .before .before .before .before .before .before .before .args .mode), row-most (c .before .before .before .before .before .before .before .before .before .before .before .before .before .before .args .mode), le-ltb _ _ (c .before .before .before .before .before .before .before .before .before .before .if1 .left), le-leb _ _ (c .before .before .before .before .before .before .before .before .before .if2 .left), le-leb _ _ (c .before .before .before .before .before .before .before .before .if3 .left), sym (c .before .before .before .before .before .before .before .state-fits .ensures) ∙ not-false _ (c .before .before .before .before .before .before .if4 .left), eq-eqb _ _ (c .before .before .before .before .before .if5 .left), le-leb _ _ (c .before .before .before .before .if6 .left), eq-eqb _ _ (c .before .before .before .if7 .left), sym (c .before .before .commands-fit .ensures) ∙ not-false _ (c .before .if8 .left), lt-leb _ _ (c .if9 .taken))
-
-returns-10 : tie.Need-returns-10
-unfolding refusalOf
-returns-10 c = simp (row-octets (c .before .before .before .before .before .before .before .before .before .before .before .before .before .before .args .mode), row-most (c .before .before .before .before .before .before .before .before .before .before .before .before .before .before .args .mode), le-ltb _ _ (c .before .before .before .before .before .before .before .before .before .before .if1 .left), le-leb _ _ (c .before .before .before .before .before .before .before .before .before .if2 .left), le-leb _ _ (c .before .before .before .before .before .before .before .before .if3 .left), sym (c .before .before .before .before .before .before .before .state-fits .ensures) ∙ not-false _ (c .before .before .before .before .before .before .if4 .left), eq-eqb _ _ (c .before .before .before .before .before .if5 .left), le-leb _ _ (c .before .before .before .before .if6 .left), eq-eqb _ _ (c .before .before .before .if7 .left), sym (c .before .before .commands-fit .ensures) ∙ not-false _ (c .before .if8 .left), le-leb _ _ (c .if9 .left))
+returns-9 c = simp (row-octets (c .before .before .before .before .before .before .before .before .before .before .before .before .before .args .mode), row-most (c .before .before .before .before .before .before .before .before .before .before .before .before .before .args .mode), le-ltb _ _ (c .before .before .before .before .before .before .before .before .before .if1 .left), le-leb _ _ (c .before .before .before .before .before .before .before .before .if2 .left), le-leb _ _ (c .before .before .before .before .before .before .before .if3 .left), sym (c .before .before .before .before .before .before .state-fits .ensures) ∙ not-false _ (c .before .before .before .before .before .if4 .left), eq-eqb _ _ (c .before .before .before .before .if5 .left), le-leb _ _ (c .before .before .before .if6 .left), sym (c .before .before .commands-fit .ensures) ∙ not-false _ (c .before .if7 .left), le-leb _ _ (c .if8 .left))
 
 pub refusal-of-spec : {M : Type 1} → statement M
 refusal-of-spec =
@@ -69,8 +65,7 @@ refusal-of-spec =
     returns-5
     returns-6
     mul-octets
-    returns-7
     commands-fit-requires
+    returns-7
     returns-8
-    returns-9
-    returns-10)
+    returns-9)
