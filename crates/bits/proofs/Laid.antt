@@ -22,6 +22,10 @@ pub length-laid : (new old : List ℕ) → length new ≤ length old → length 
 unfolding laid
 length-laid new old h = length-append new (drop (length new) old) ∙ omega (arith, length-drop (length new) old)
 
+pub laid-nothing : (old : List ℕ) → laid [] old ≡ old
+unfolding laid
+laid-nothing old = refl
+
 -- laid over no more than its own length, a list is all that is left
 pub laid-all : (new old : List ℕ) → length old ≤ length new → laid new old ≡ new
 unfolding laid

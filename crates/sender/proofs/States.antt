@@ -27,11 +27,11 @@ pub record Fits (R : Row) (E : ℕ) (s : Sender) : Type 0 where
   pub parity : s .parity < 2 ^ R .code .width
   pub number : s .number < E
 
-pub and-left : (a b : Bool) → (a && b) ≡ true → a ≡ true
+and-left : (a b : Bool) → (a && b) ≡ true → a ≡ true
 and-left true b e = refl
 and-left false b e = e
 
-pub and-right : (a b : Bool) → (a && b) ≡ true → b ≡ true
+and-right : (a b : Bool) → (a && b) ≡ true → b ≡ true
 and-right true b e = e
 and-right false true e = refl
 and-right false false e = e

@@ -12,7 +12,7 @@ use lib.Seq.{take-suc, take-length, length-take-le}
 use borrow.Rule.Slice.PartMut.{putMid, midOf, same-len-mid}
 use Rattle.bits.specs.Choice.{pick, bitOf}
 use Rattle.bits.specs.Order.{bitAt, laid}
-use Rattle.bits.proofs.Laid.{laid-part, laid-all}
+use Rattle.bits.proofs.Laid.{laid-nothing, laid-all, laid-part}
 use Rattle.parity.specs.Codeword.{parityOf}
 use Rattle.frame.specs.Modes.{Row, row}
 use Rattle.frame.specs.Lane.{multiblock}
@@ -58,8 +58,8 @@ pub record Held (mode E : ℕ) (start : Sender) (user commands old : List ℕ) (
   pub number : s .number < E
 
 pub held-none : (mode E : ℕ) (start : Sender) (user commands old : List ℕ) → start .number < E → Held mode E start user commands old 0 start old
-unfolding after lane laid
-held-none mode E start user commands old h = record { state = refl; sent = refl; long = refl; number = h }
+unfolding after lane
+held-none mode E start user commands old h = record { state = refl; sent = sym (laid-nothing old); long = refl; number = h }
 
 next-number : (R : Row) (E : ℕ) (s : Sender) (user : List ℕ) → s .number < E → afterOne R E s user .number < E
 unfolding afterOne
