@@ -1,15 +1,16 @@
 -- Octets laid over others: a word as eight octets, and octets that follow those laid before. Document 01, "From octets to lane bits".
 -- Assumes nothing.
 use mathlib.Core.Path.{_≡_, refl, sym, ap, ap₂, _∙_}
-use mathlib.Core.List.{List, [], _∷_, _++_, append-assoc}
+use mathlib.Core.List.{List, [], _∷_, _++_, append-assoc, append-nil}
 use Prim.Native.Nat.{ℕ, suc, _+_, _-_, _*_, _/_, _%_, _^_, _≤_, _<_}
 use native.Mathlib.Nat.{zero-add, div-one}
 use native.Mathlib.Numerals.{add-one}
 use native.Mathlib.Omega.{arith}
 use lib.Dec.{leb, leb→le, le→leb, not-T, lit≤}
-use lib.ListN.{length, set, take, drop, length-append, length-drop}
-use lib.Seq.{append-snoc, set-split, sets-eq, length-take-le, take-at, drop-append-add, drop-drop}
+use lib.ListN.{length, set, take, drop, length-append, length-drop, drop-of-length-le}
+use lib.Seq.{append-snoc, set-split, sets-eq, length-take-le, take-at, drop-at, take-all, drop-length, drop-append-add, drop-drop}
 use lib.Pow.{shr-shr}
+use borrow.Rule.Slice.PartMut.{putMid, midOf, postOf, post-is}
 use Rattle.bits.specs.Order.{run, number, digit, octetsOf, laid, laidAt}
 use Rattle.bits.proofs.Choice.{pick-true, pick-false}
 use Rattle.bits.proofs.Numbers.{number-digit, number-ext, digit-number}
@@ -22,6 +23,15 @@ length-laid new old h = length-append new (drop (length new) old) ∙ omega (ari
 
 pub length-laid-octets : (f : ℕ → ℕ) (n : ℕ) (old : List ℕ) → n ≤ length old → length (laid (octetsOf f n) old) ≡ length old
 length-laid-octets f n old h = length-laid (octetsOf f n) old (omega (arith, length-octetsOf f n))
+
+pub laid-nothing : (old : List ℕ) → laid [] old ≡ old
+unfolding laid
+laid-nothing old = refl
+
+-- laid over no more than its own length, a list is all that is left
+pub laid-all : (new old : List ℕ) → length old ≤ length new → laid new old ≡ new
+unfolding laid
+laid-all new old h = ap (λ (x : List ℕ). new ++ x) (drop-of-length-le old h) ∙ append-nil new
 
 -- ---- where they fit, and where not
 
@@ -139,3 +149,16 @@ module _ (f : ℕ → ℕ) where
 pub laid-none : (f : ℕ → ℕ) (old : List ℕ) → old ≡ laid (octetsOf f 0) old
 unfolding laid octetsOf run
 laid-none f old = refl
+
+-- ---- a list that follows, written through the part of a buffer from a place on
+
+module _ (xs ys old all part : List ℕ) (at : ℕ) (here : length xs ≡ at) (so-far : all ≡ laid xs old) (long : length all ≡ length old) (room : at + length ys ≤ length old) where
+  pub laid-part : part ≡ laid ys (midOf at (length all - at) all) → putMid at (length all - at) all part ≡ laid (xs ++ ys) old
+  unfolding laid
+  laid-part e =
+      let whole : all ≡ xs ++ drop at old = so-far ∙ ap (λ (x : ℕ). xs ++ drop x old) here in
+      let before : take at all ≡ xs = ap (take at) whole ∙ take-at xs (drop at old) at here in
+      let rest : midOf at (length all - at) all ≡ drop at old = take-all (length all - at) (drop at all) (simp length-drop (omega arith)) ∙ ap (drop at) whole ∙ drop-at xs (drop at old) at here in
+      let past : postOf at (length all - at) all ≡ [] = post-is at (length all) all (omega arith) ∙ drop-length all in
+      let both : length (xs ++ ys) ≡ at + length ys = length-append xs ys ∙ ap (λ (x : ℕ). x + length ys) here in
+      rw (before, past, append-nil, e, rest, drop-drop (length ys) at old, both, append-assoc)

@@ -7,3 +7,4 @@ pub mod Blocks
 pub mod Lane
 pub mod Packing
 pub mod Parts
+pub mod Sizes

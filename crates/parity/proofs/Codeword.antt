@@ -1,17 +1,19 @@
 -- The remainder of data, with the parity received, is the sum of the weights of the codeword's set positions. Assumes nothing.
 use mathlib.Core.Path.{_≡_, refl, sym, ap, ap₂, _∙_}
+use mathlib.Core.List.{List}
 use Prim.Native.Nat.{ℕ, zero, suc, _+_, _-_, _*_, _/_, _%_, _^_, _≤_, _<_}
 use native.Mathlib.Nat.{add-zero, zero-add, add-suc, suc-add, le-refl, mod-eq-of-lt, zero-lt-suc}
 use native.Mathlib.Omega.{arith}
 use lib.Pow.{pow-pos, pow-lt}
 use lib.Bits.{bitXor, xor-lt, xor-comm, xor-zero-r, xor-shifted}
 use borrow.Author.Tests.{lt-ltb, le-ltb}
-use Rattle.bits.specs.Order.{run, number}
+use Rattle.bits.specs.Order.{run, number, bitsOf}
 use Rattle.bits.proofs.Xor.{odd-lt, xor-assoc, xor-swap}
 use Rattle.bits.proofs.Numbers.{number-first, number-lt, number-ext, number-whole}
 use Rattle.parity.specs.Polynomial.{scale, timesX, timesPower, power}
 use Rattle.parity.specs.Remainder.{next, remainderFrom, remainder}
-use Rattle.parity.specs.Codeword.{Code, weight, codeword, weighed, remainderOf}
+use Rattle.parity.specs.Codeword.{Code, parityOf, weight, codeword, weighed, remainderOf}
+use Rattle.parity.proofs.Remainder.{remainder-lt}
 use Rattle.parity.proofs.Polynomial.{scale-xor, scale-lt, timesPower-xor, timesPower-zero, timesPower-scale, timesPower-in, timesPower-add, timesPower-lt, power-low, power-width}
 
 module _ (C : Code) where
@@ -123,3 +125,9 @@ module _ (C : Code) where
           ∙ ap (λ (x : ℕ). weighed C (codeword C f parity) x w) (sym (zero-add n)))
           ∙ sym (weighed-append (codeword C f parity) 0 n w)
           ∙ ap (weighed C (codeword C f parity) 0) {x = n + w} {y = C .positions} (omega arith)
+
+-- ---- a parity is no wider than the code's
+
+pub parity-lt : (C : Code) → C .lower < 2 ^ C .width → (octets : List ℕ) → parityOf C octets < 2 ^ C .width
+unfolding parityOf
+parity-lt C fits octets = remainder-lt (C .width) (C .lower) fits (bitsOf octets)

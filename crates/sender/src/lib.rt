@@ -1,6 +1,10 @@
 // The sender: user octets and commands to lane octets. Document 01, "From octets to lane bits" and "Numbers of refusal".
 ghost use mathlib.Core.Path.{_≡_};
 ghost use Rattle.sender.specs.Lane.{fresh};
+ghost use Rattle.sender.specs.Entry.{done, entry};
+
+mod refusal;
+mod run;
 
 // What a sender carries from one call to the next: the last 58 bits sent, the parity of the last multiblock, and the number of the next
 // multiblock in its extended multiblock.
@@ -26,5 +30,25 @@ impl Sender {
             parity: 0,
             number: 0,
         }
+    }
+}
+
+// Sends 256 user octets for each command, over the start of `lane`.
+pub fn send(mode: u8, e: u32, state: Sender, user: &[u8], commands: &[u32], lane: &mut [u8]) -> Sent
+    ensures { λ r. ⌜ done r (now (lane .exit)) ≡ entry mode e state (now (user .entry)) (now (commands .entry)) (now (lane .entry)) ⌝ }
+{
+    let refusal = refusal::refusal_of(mode, e, state, user, commands, lane);
+    if refusal != 0 {
+        return Sent {
+            refusal,
+            count: 0,
+            state,
+        };
+    }
+    let after = run::send_all(mode, e, state, user, commands, lane);
+    Sent {
+        refusal: 0,
+        count: commands.len(),
+        state: after,
     }
 }
