@@ -44,8 +44,8 @@ loop-again c =
     let start = c .before .before .if1 .start in
     let more : l .i < length s = c .before .before .before .before .loop-test .taken in
     let e : start ≡ startAfter (getD s (l .i) 0) (l .i) (l .start) =
-    ⊎-elim (λ w. w .1 ∙ ends-run (getD s (l .i) 0) (l .i) (l .start) (w .0 .taken))
-    (λ w. w .1 ∙ keeps-run (getD s (l .i) 0) (l .i) (l .start) (w .0 .left)) (c .before .before .if1 .came) in
+    ⊎-elim (λ w. w .1 ∙ ends-run (getD s (l .i) 0) (l .i) (l .start) (omega arith))
+    (λ w. w .1 ∙ keeps-run (getD s (l .i) 0) (l .i) (l .start) (omega arith)) (c .before .before .if1 .came) in
     let below : start ≤ l .i + 1 = ⊎-elim (λ w. omega arith) (λ w. omega arith) (c .before .before .if1 .came) in
     (omega arith, below, sym (scan-on s (l .i) (l .start) start (l .best) (c .longer-of .result) more e (c .longer-of .ensures)) ∙ l .inv .2)
 
