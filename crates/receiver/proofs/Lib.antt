@@ -1,0 +1,2 @@
+-- Laws of the receiver that no one function owns.
+pub mod Spans
