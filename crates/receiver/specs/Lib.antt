@@ -4,3 +4,4 @@ pub mod Release
 pub mod Refusal
 pub mod Entry
 pub mod Sound
+pub mod Turn

@@ -1,0 +1,30 @@
+-- `receiver::refusal::command_bound` meets its contract.
+-- Assumes nothing.
+use borrow.Author.Needs.{needs}
+use Prim.Native.Nat.{ℕ, suc, _+_, _-_, _*_, _/_, _%_, _^_, _≤_, _<_}
+use mathlib.Core.Path.{_≡_, refl, sym, ap, _∙_, subst}
+use mathlib.Core.List.{List, [], _∷_, _++_}
+use mathlib.Core.Bool.{Bool, true, false}
+use mathlib.Core.Logic.{⊎-elim}
+use native.Mathlib.Numerals.{add-one}
+use native.Mathlib.Omega.{arith}
+use borrow.Author.Count.{below-more}
+use borrow.Author.Tests.{le-ltb, lt-ltb, ltb-true, ltb-false, eq-eqb, ne-eqb}
+use lib.ListN.{length, getD, set, take, drop, length-set, length-append, length-take, length-drop}
+use lib.Seq.{take-suc, take-suc-set, take-all}
+use denote.Ref.{now}
+use Rattle.receiver.proofs.refusal.command_bound.Statement.{statement}
+use Rattle.receiver.proofs.refusal.command_bound.Tie as tie
+use Rattle.receiver.proofs.refusal.command_bound.Reads as reads
+use Rattle.receiver.proofs.refusal.command_bound.Lts as lts
+
+-- src/refusal.rt:38:1
+returns : tie.Need-returns
+returns c = search needs
+
+-- src/refusal.rt:38:1
+returns-2 : tie.Need-returns-2
+returns-2 c = search needs
+
+pub command-bound-spec : {M : Type 1} → statement M
+command-bound-spec = tie.close (tie.spec returns returns-2)
