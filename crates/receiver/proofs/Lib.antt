@@ -1,1 +1,2 @@
 -- Laws of what the receiver releases.
+pub mod Mending

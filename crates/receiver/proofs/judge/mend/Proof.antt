@@ -19,18 +19,18 @@ use Rattle.receiver.proofs.judge.mend.Reads as reads
 use Rattle.receiver.proofs.judge.mend.Lts as lts
 
 abbrev Inv-loop : tie.InvT-loop
-Inv-loop out₀ left₀ position₀ out left position = ?
+Inv-loop out₀ left₀ position₀ out left position = Unit
 
 abbrev μ-loop : tie.MeasureT-loop
-μ-loop out₀ left₀ position₀ out left position = ?
+μ-loop out₀ left₀ position₀ out left position = left
 
 -- src/judge.rt:67:24
 cast-position : tie.Need-cast-position Inv-loop μ-loop
-cast-position c = search needs
+cast-position c = let g : ℕ = c .struct-known .given in ?
 
 -- src/judge.rt:68:5
 loop-holds : tie.Need-loop-holds Inv-loop μ-loop
-loop-holds c = search needs
+loop-holds c = let g : ℕ = c .before .good .0 .1 .1 in tt
 
 -- src/judge.rt:71:37
 array-read-out : tie.Need-array-read-out Inv-loop μ-loop
