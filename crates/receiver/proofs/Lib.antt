@@ -1,2 +1,3 @@
 -- Laws of what the receiver releases.
 pub mod Mending
+pub mod Refusals

@@ -166,3 +166,42 @@ mend-none octets p long octet-lt =
 pub mended-length : (v : Verdict) (octets : List ℕ) → length (mended v octets) ≡ 256
 unfolding mended
 mended-length v octets = length-octetsOf (λ k. bitXor (bitAt octets k) (flips (v .place) (v .pattern) k)) 256
+
+-- ---- on the way: what is left to flip
+
+-- the octets out, with the pattern w from p on left to be flipped, where the pattern w₀ from p₀ on was to be flipped in octets
+pub record Mending (octets : List ℕ) (p₀ w₀ : ℕ) (out : List ℕ) (p w : ℕ) : Type 0 where
+  pub long : length out ≡ 256
+  pub octet-lt : (j : ℕ) → getD out j 0 < 256
+  pub near : p + w ≤ p₀ + w₀
+  pub same : mendedBy p w out ≡ mendedBy p₀ w₀ octets
+
+module _ {octets out : List ℕ} {p₀ w₀ p w : ℕ} (m : Mending octets p₀ w₀ out p w) (some : 0 < w) where
+  pub flip-next : {new : List ℕ} → new ≡ flipAt out p → p < 2048 → w % 2 ≡ 1 → Mending octets p₀ w₀ new (p + 1) (w / 2)
+  flip-next e inside odd =
+      let h : p / 8 < length out = omega (arith, m .long) in
+      record {
+        long = ap length e ∙ flip-length out p ∙ m .long;
+        octet-lt = λ j. rw e (flip-octets out p h (m .octet-lt) j);
+        near = omega (arith, m .near);
+        same = ap (mendedBy (p + 1) (w / 2)) e ∙ mend-odd out p w (m .long) inside odd ∙ m .same;
+      }
+
+  skip : {new : List ℕ} → new ≡ out → mendedBy (p + 1) (w / 2) out ≡ mendedBy p w out → Mending octets p₀ w₀ new (p + 1) (w / 2)
+  skip e left = record {
+    long = ap length e ∙ m .long;
+    octet-lt = λ j. rw e (m .octet-lt j);
+    near = omega (arith, m .near);
+    same = ap (mendedBy (p + 1) (w / 2)) e ∙ left ∙ m .same;
+  }
+
+  pub skip-parity : {new : List ℕ} → new ≡ out → 2048 ≤ p → Mending octets p₀ w₀ new (p + 1) (w / 2)
+  skip-parity e h = skip e (mend-parity out p w h)
+
+  pub skip-even : {new : List ℕ} → new ≡ out → (w % 2 ≡ 1 → ⊥) → Mending octets p₀ w₀ new (p + 1) (w / 2)
+  skip-even e n = skip e (mend-even out p w (omega arith))
+
+pub all-flipped : (v : Verdict) {octets out : List ℕ} {p w : ℕ} → Mending octets (v .place) (v .pattern) out p w → w ≡ 0 → out ≡ mended v octets
+unfolding mended
+all-flipped v {out = out} {p = p} m none =
+    sym (ap (λ (x : ℕ). mendedBy p x out) none ∙ mend-none out p (m .long) (m .octet-lt)) ∙ m .same

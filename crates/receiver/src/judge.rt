@@ -1,6 +1,6 @@
 // What a waiting multiblock turns out to be, and its repair: document 01, "What the receiver releases"; clauses 7.4.1 and 7.5.3.
 ghost use mathlib.Core.Path.{_≡_};
-ghost use Prim.Native.Nat.{ℕ, _^_, _<_, _≤_};
+ghost use Prim.Native.Nat.{ℕ, _<_, _≤_};
 ghost use lib.ListN.{length, getD};
 ghost use Rattle.frame.specs.Modes.{row};
 ghost use Rattle.receiver.specs.Judge.{byBurst, verdictOf, judged, mended, marked, trustedAfter};
@@ -61,7 +61,7 @@ pub(crate) fn judge(mode: u8, octets: &[u8], parity: u32) -> Verdict
 
 // The octets with the burst flipped. Positions from 2,048 on are parity, and no octet holds them.
 pub(crate) fn mend(octets: [u8; 256], verdict: Verdict) -> [u8; 256]
-    requires { ⌜ (verdict .pattern < 2 ^ 9) × (length octets ≡ 256) × ((j : ℕ) → getD octets j 0 < 256) ⌝ }
+    requires { ⌜ (length octets ≡ 256) × ((j : ℕ) → getD octets j 0 < 256) ⌝ }
     ensures { λ r. ⌜ r ≡ mended verdict octets ⌝ }
 {
     let mut out = octets;

@@ -93,7 +93,10 @@ fn room_for(
     if k > places {
         return false;
     }
-    k <= patterns
+    if k > patterns {
+        return false;
+    }
+    true
 }
 
 // The lowest number that applies, or 0, by the state and the lengths of the lane and of the lent buffers.

@@ -12,6 +12,7 @@ use borrow.Author.Count.{below-more}
 use borrow.Author.Tests.{le-ltb, lt-ltb, ltb-true, ltb-false, eq-eqb, ne-eqb}
 use lib.ListN.{length, getD, set, take, drop, length-set, length-append, length-take, length-drop}
 use lib.Seq.{take-suc, take-suc-set, take-all}
+use Rattle.receiver.specs.Judge.{byBurst}
 use denote.Ref.{now}
 use Rattle.receiver.proofs.judge.by_burst.Statement.{statement}
 use Rattle.receiver.proofs.judge.by_burst.Tie as tie
@@ -28,11 +29,11 @@ enum-told c = search needs
 
 -- src/judge.rt:12:1
 returns : tie.Need-returns
-returns c = search needs
+returns c = sym (ap byBurst (c .before .burst .given .1))
 
 -- src/judge.rt:12:1
 returns-2 : tie.Need-returns-2
-returns-2 c = search needs
+returns-2 c = sym (ap byBurst (c .enum-told .given .1))
 
 pub by-burst-spec : {M : Type 1} → statement M
 by-burst-spec = tie.close (tie.spec enum-known-burst enum-told returns returns-2)

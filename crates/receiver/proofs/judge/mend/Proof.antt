@@ -12,6 +12,9 @@ use borrow.Author.Count.{below-more}
 use borrow.Author.Tests.{le-ltb, lt-ltb, ltb-true, ltb-false, eq-eqb, ne-eqb}
 use lib.ListN.{length, getD, set, take, drop, length-set, length-append, length-take, length-drop}
 use lib.Seq.{take-suc, take-suc-set, take-all}
+use Rattle.receiver.specs.Judge.{mended}
+use Rattle.receiver.proofs.Mending.{flipAt, Mending, flip-next, skip-parity, skip-even, all-flipped}
+use lib.Bits.{bitAnd, bitXor, and-mask}
 use denote.Ref.{now}
 use Rattle.receiver.proofs.judge.mend.Statement.{statement}
 use Rattle.receiver.proofs.judge.mend.Tie as tie
@@ -19,50 +22,56 @@ use Rattle.receiver.proofs.judge.mend.Reads as reads
 use Rattle.receiver.proofs.judge.mend.Lts as lts
 
 abbrev Inv-loop : tie.InvT-loop
-Inv-loop out₀ left₀ position₀ out left position = Unit
+Inv-loop out₀ left₀ position₀ out left position = Mending out₀ position₀ left₀ out position left
 
 abbrev μ-loop : tie.MeasureT-loop
 μ-loop out₀ left₀ position₀ out left position = left
 
--- src/judge.rt:67:24
+-- src/judge.rt:69:24
 cast-position : tie.Need-cast-position Inv-loop μ-loop
-cast-position c = let g : ℕ = c .struct-known .given in ?
+cast-position c = search needs
 
--- src/judge.rt:68:5
+-- src/judge.rt:70:5
 loop-holds : tie.Need-loop-holds Inv-loop μ-loop
-loop-holds c = let g : ℕ = c .before .good .0 .1 .1 in tt
+loop-holds c = let pre = c .before .pre in record { long = pre .0; octet-lt = pre .1; near = omega arith; same = refl }
 
--- src/judge.rt:71:37
+-- src/judge.rt:73:37
 array-read-out : tie.Need-array-read-out Inv-loop μ-loop
 array-read-out c = search needs
 
--- src/judge.rt:71:68
+-- src/judge.rt:73:68
 cast-out : tie.Need-cast-out Inv-loop μ-loop
 cast-out c = search needs
 
--- src/judge.rt:71:58
+-- src/judge.rt:73:58
 shr-out : tie.Need-shr-out Inv-loop μ-loop
 shr-out c = search needs
 
--- src/judge.rt:71:17
+-- src/judge.rt:73:17
 array-write-out : tie.Need-array-write-out Inv-loop μ-loop
 array-write-out c = search needs
 
--- src/judge.rt:75:9
+-- src/judge.rt:77:9
 add-position : tie.Need-add-position Inv-loop μ-loop
-add-position c = search needs
+add-position c = let k = c .before .before .before .struct-known .given in omega (arith, k .1 .0 .fits, k .1 .1 .0 .fits, c .before .before .loop .inv .near)
 
--- src/judge.rt:68:5
+-- src/judge.rt:70:5
 loop-less : tie.Need-loop-less Inv-loop μ-loop
 loop-less c = search needs
 
--- src/judge.rt:68:5
+-- src/judge.rt:70:5
 loop-again : tie.Need-loop-again Inv-loop μ-loop
-loop-again c = search needs
+unfolding flipAt
+loop-again c =
+    let l = c .before .before .loop in
+    let some = c .before .loop-test .taken in
+    let low : bitAnd (l .left) 1 ≡ l .left % 2 = and-mask (l .left) 1 in
+    ⊎-elim (λ t. flip-next (l .inv) some (t .2) (t .1 .taken) (omega (arith, low, t .0 .taken)))
+    (λ u. ⊎-elim (λ t. skip-parity (l .inv) some (t .2) (t .1 .left)) (λ t. skip-even (l .inv) some (t .1) (λ e. t .0 .left (low ∙ e))) u) (c .if1 .came)
 
--- src/judge.rt:61:1
+-- src/judge.rt:63:1
 returns : tie.Need-returns Inv-loop μ-loop
-returns c = search needs
+returns c = all-flipped (c .before .before .before .args .verdict) (c .before .loop .inv) (omega (arith, c .loop-test .left))
 
 pub mend-spec : {M : Type 1} → statement M
 mend-spec =

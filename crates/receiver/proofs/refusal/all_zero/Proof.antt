@@ -12,21 +12,37 @@ use borrow.Author.Count.{below-more}
 use borrow.Author.Tests.{le-ltb, lt-ltb, ltb-true, ltb-false, eq-eqb, ne-eqb}
 use lib.ListN.{length, getD, set, take, drop, length-set, length-append, length-take, length-drop}
 use lib.Seq.{take-suc, take-suc-set, take-all}
+use lib.Seq.{drop-cons}
+use lib.ListN.{drop-of-length-le}
+use Rattle.receiver.specs.Refusal.{allZero}
 use denote.Ref.{now}
 use Rattle.receiver.proofs.refusal.all_zero.Statement.{statement}
 use Rattle.receiver.proofs.refusal.all_zero.Tie as tie
 use Rattle.receiver.proofs.refusal.all_zero.Reads as reads
 use Rattle.receiver.proofs.refusal.all_zero.Lts as lts
 
+module _ (octets : List ℕ) (i : ℕ) (e : allZero octets ≡ allZero (drop i octets)) where
+  found : i < length octets → (getD octets i 0 ≡ 0 → ⊥) → false ≡ allZero octets
+  unfolding allZero
+  found h n = sym (e ∙ rw (drop-cons octets i 0, ne-eqb _ _ n))
+
+  passed : i < length octets → getD octets i 0 ≡ 0 → allZero octets ≡ allZero (drop (i + 1) octets)
+  unfolding allZero
+  passed h z = e ∙ rw (add-one, drop-cons octets i 0, z)
+
+  ended : length octets ≤ i → true ≡ allZero octets
+  unfolding allZero
+  ended h = sym (e ∙ rw (drop-of-length-le octets h))
+
 abbrev Inv-loop : tie.InvT-loop
-Inv-loop octets i₀ i-end i = ?
+Inv-loop octets i₀ i-end i = (i-end ≡ length octets) × (i ≤ length octets) × (allZero octets ≡ allZero (drop i octets))
 
 abbrev μ-loop : tie.MeasureT-loop
-μ-loop octets i₀ i-end i = ?
+μ-loop octets i₀ i-end i = length octets - i
 
 -- src/refusal.rt:12:5
 loop-holds : tie.Need-loop-holds Inv-loop μ-loop
-loop-holds c = search needs
+loop-holds c = (refl, search needs, refl)
 
 -- src/refusal.rt:13:12
 shared-slice-read-if1 : tie.Need-shared-slice-read-if1 Inv-loop μ-loop
@@ -34,7 +50,9 @@ shared-slice-read-if1 c = search needs
 
 -- src/refusal.rt:14:13
 returns : tie.Need-returns Inv-loop μ-loop
-returns c = search needs
+returns c =
+    let l = c .before .before .before .loop in
+    found (now (c .before .before .before .before .args .octets)) (l .i) (l .inv .2) (omega arith) (c .if1 .taken)
 
 -- src/refusal.rt:12:9
 add-i : tie.Need-add-i Inv-loop μ-loop
@@ -46,11 +64,15 @@ loop-less c = search needs
 
 -- src/refusal.rt:12:5
 loop-again : tie.Need-loop-again Inv-loop μ-loop
-loop-again c = search needs
+loop-again c =
+    let l = c .before .before .before .loop in
+    (l .inv .0, omega arith, passed (now (c .before .before .before .before .args .octets)) (l .i) (l .inv .2) (omega arith) (c .if1 .left))
 
 -- src/refusal.rt:9:1
 returns-2 : tie.Need-returns-2 Inv-loop μ-loop
-returns-2 c = search needs
+returns-2 c =
+    let l = c .before .loop in
+    ended (now (c .before .before .args .octets)) (l .i) (l .inv .2) (omega arith)
 
 pub all-zero-spec : {M : Type 1} → statement M
 all-zero-spec =

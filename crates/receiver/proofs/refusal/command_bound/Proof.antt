@@ -12,6 +12,7 @@ use borrow.Author.Count.{below-more}
 use borrow.Author.Tests.{le-ltb, lt-ltb, ltb-true, ltb-false, eq-eqb, ne-eqb}
 use lib.ListN.{length, getD, set, take, drop, length-set, length-append, length-take, length-drop}
 use lib.Seq.{take-suc, take-suc-set, take-all}
+use Rattle.receiver.specs.Refusal.{commandBound}
 use denote.Ref.{now}
 use Rattle.receiver.proofs.refusal.command_bound.Statement.{statement}
 use Rattle.receiver.proofs.refusal.command_bound.Tie as tie
@@ -20,11 +21,13 @@ use Rattle.receiver.proofs.refusal.command_bound.Lts as lts
 
 -- src/refusal.rt:38:1
 returns : tie.Need-returns
-returns c = search needs
+unfolding commandBound
+returns c = simp (eq-eqb _ _ (c .if1 .taken))
 
 -- src/refusal.rt:38:1
 returns-2 : tie.Need-returns-2
-returns-2 c = search needs
+unfolding commandBound
+returns-2 c = simp (ne-eqb _ _ (c .if1 .left))
 
 pub command-bound-spec : {M : Type 1} → statement M
 command-bound-spec = tie.close (tie.spec returns returns-2)

@@ -12,6 +12,8 @@ use borrow.Author.Count.{below-more}
 use borrow.Author.Tests.{le-ltb, lt-ltb, ltb-true, ltb-false, eq-eqb, ne-eqb}
 use lib.ListN.{length, getD, set, take, drop, length-set, length-append, length-take, length-drop}
 use lib.Seq.{take-suc, take-suc-set, take-all}
+use borrow.Author.Tests.{le-leb, lt-leb, not-true, not-false}
+use Rattle.receiver.specs.Turn.{roomFor}
 use denote.Ref.{now}
 use Rattle.receiver.proofs.refusal.room_for.Statement.{statement}
 use Rattle.receiver.proofs.refusal.room_for.Tie as tie
@@ -24,23 +26,34 @@ mul-if1 c = search needs
 
 -- src/refusal.rt:85:9
 returns : tie.Need-returns
-returns c = search needs
+unfolding roomFor
+returns c = simp (lt-leb _ _ (c .if1 .taken))
 
 -- src/refusal.rt:88:9
 returns-2 : tie.Need-returns-2
-returns-2 c = search needs
+unfolding roomFor
+returns-2 c = simp (le-leb _ _ (c .before .if1 .left), lt-leb _ _ (c .if2 .taken))
 
 -- src/refusal.rt:91:9
 returns-3 : tie.Need-returns-3
-returns-3 c = search needs
+unfolding roomFor
+returns-3 c = simp (le-leb _ _ (c .before .before .if1 .left), le-leb _ _ (c .before .if2 .left), lt-leb _ _ (c .if3 .taken))
 
 -- src/refusal.rt:94:9
 returns-4 : tie.Need-returns-4
-returns-4 c = search needs
+unfolding roomFor
+returns-4 c = simp (le-leb _ _ (c .before .before .before .if1 .left), le-leb _ _ (c .before .before .if2 .left), le-leb _ _ (c .before .if3 .left), lt-leb _ _ (c .if4 .taken))
+
+-- src/refusal.rt:97:9
+returns-5 : tie.Need-returns-5
+unfolding roomFor
+returns-5 c = simp (le-leb _ _ (c .before .before .before .before .if1 .left), le-leb _ _ (c .before .before .before .if2 .left), le-leb _ _ (c .before .before .if3 .left), le-leb _ _ (c .before .if4 .left), lt-leb _ _ (c .if5 .taken))
 
 -- src/refusal.rt:73:1
-returns-5 : tie.Need-returns-5
-returns-5 c = search needs
+returns-6 : tie.Need-returns-6
+unfolding roomFor
+returns-6 c = simp (le-leb _ _ (c .before .before .before .before .if1 .left), le-leb _ _ (c .before .before .before .if2 .left), le-leb _ _ (c .before .before .if3 .left), le-leb _ _ (c .before .if4 .left), le-leb _ _ (c .if5 .left))
 
 pub room-for-spec : {M : Type 1} → statement M
-room-for-spec = tie.close (tie.spec mul-if1 returns returns-2 returns-3 returns-4 returns-5)
+room-for-spec =
+    tie.close (tie.spec mul-if1 returns returns-2 returns-3 returns-4 returns-5 returns-6)
