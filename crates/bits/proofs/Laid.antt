@@ -6,7 +6,7 @@ use Prim.Native.Nat.{ℕ, suc, _+_, _-_, _*_, _/_, _%_, _^_, _≤_, _<_}
 use native.Mathlib.Nat.{zero-add, div-one}
 use native.Mathlib.Omega.{arith}
 use lib.Dec.{leb, leb→le, le→leb, not-T, lit≤}
-use lib.ListN.{length, set, take, drop, length-append, length-drop}
+use lib.ListN.{length, set, take, drop, length-append, length-drop, drop-of-length-le}
 use lib.Seq.{sets-eq, take-at, drop-append-add, drop-drop}
 use Rattle.bits.specs.Order.{run, number, digit, octetsOf, laid, laidAt}
 use Rattle.bits.proofs.Choice.{pick-true, pick-false}
@@ -90,3 +90,12 @@ laid-word f d i word old h e =
 pub laid-none : (f : ℕ → ℕ) (old : List ℕ) → old ≡ laid (octetsOf f 0) old
 unfolding laid octetsOf run
 laid-none f old = refl
+
+-- over all of the other
+pub laid-whole : (new old : List ℕ) → length old ≤ length new → laid new old ≡ new
+unfolding laid
+laid-whole new old h = ap (λ (x : List ℕ). new ++ x) (drop-of-length-le old h) ∙ nil new
+  where
+    nil : (l : List ℕ) → l ++ [] ≡ l
+    nil [] = refl
+    nil (x ∷ l) = ap (λ (k : List ℕ). x ∷ k) (nil l)

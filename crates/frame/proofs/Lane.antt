@@ -13,7 +13,7 @@ use Rattle.bits.specs.Choice.{pick}
 use Rattle.bits.specs.Order.{bitAt, digit}
 use Rattle.bits.proofs.Xor.{bit-cases}
 use Rattle.bits.proofs.Numbers.{bitAt-lt}
-use Rattle.bits.proofs.Octets.{digit-lt, bit-octetsOf, octetsOf-ext, octetsOf-bits}
+use Rattle.bits.proofs.Octets.{digit-lt, length-octetsOf, bit-octetsOf, octetsOf-ext, octetsOf-bits}
 use Rattle.frame.specs.Headers.{value, carries, spoilt, headerOf}
 use Rattle.frame.specs.Modes.{crc12Row, fecRow, row}
 use Rattle.frame.specs.Lane.{blockWidth, laneOctets, headerPlace, dataPlace, dataBit, headerAt, syncBit, spoiltBit, dataOctets, blockBit, multiblockBit, multiblock}
@@ -192,6 +192,10 @@ module _ (gap : ℕ) (f g : ℕ → ℕ) (m : ℕ) where
     pub same-spoilt : spoiltBit gap f m t ≡ spoiltBit gap g m t
     unfolding spoiltBit
     same-spoilt = ap spoilt e
+
+pub length-data : (gap : ℕ) (lane : ℕ → ℕ) (m : ℕ) → length (dataOctets gap lane m) ≡ 256
+unfolding dataOctets
+length-data gap lane m = length-octetsOf (dataBit gap lane m) 256
 
 -- ---- the modes have blocks of 66 bits, and one call takes 240 multiblocks at most
 

@@ -4,7 +4,7 @@ use mathlib.Core.Bool.{Bool, true, false, not}
 use mathlib.Core.List.{List}
 use Prim.Native.Nat.{ℕ, _≤_, _<_}
 use native.Mathlib.Omega.{arith}
-use borrow.Author.Tests.{ltb-false, ne-eqb}
+use borrow.Author.Tests.{ltb-false, eq-eqb, ne-eqb}
 use lib.Dec.{T, ltb, lt→ltb, ltb→lt, not-T}
 use lib.ListN.{length}
 use Rattle.bits.specs.Choice.{pick}
@@ -44,3 +44,7 @@ long-enough n given m lent e =
 pub untouched : (refusal : ℕ) (answer lent : List ℕ) → (refusal ≡ 0 → ⊥) → written refusal answer lent ≡ lent
 unfolding written
 untouched refusal answer lent h = ap (λ (t : Bool). pick t (laid answer lent) lent) (ne-eqb refusal 0 h)
+
+pub laid-where-accepted : (refusal : ℕ) (answer lent : List ℕ) → refusal ≡ 0 → written refusal answer lent ≡ laid answer lent
+unfolding written
+laid-where-accepted refusal answer lent h = ap (λ (t : Bool). pick t (laid answer lent) lent) (eq-eqb refusal 0 h)

@@ -1,3 +1,9 @@
 -- Laws of what the receiver releases.
 pub mod Mending
 pub mod Refusals
+pub mod Cut
+pub mod Counts
+pub mod Verdicts
+pub mod Accepted
+pub mod Buffers
+pub mod Hearing

@@ -58,11 +58,11 @@ module _ (R : Row) (s : Receiver) where
 
 -- ---- the order of the numbers
 
-module _ (mode : ℕ) (s : Receiver) (lane octets statuses commands places patterns : ℕ) where
-  -- by the five tests
-  abbrev refusalBy : Bool → Bool → Bool → Bool → Bool → ℕ
-  refusalBy wrong fits whole few room = pick wrong 1 (pick fits (pick whole (pick few (pick room 0 7) 5) 4) 3)
+-- by the five tests
+abbrev pub refusalBy : Bool → Bool → Bool → Bool → Bool → ℕ
+refusalBy wrong fits whole few room = pick wrong 1 (pick fits (pick whole (pick few (pick room 0 7) 5) 4) 3)
 
+module _ (mode : ℕ) (s : Receiver) (lane octets statuses commands places patterns : ℕ) where
   pub refusal-is : refusalOf mode s lane octets statuses commands places patterns
       ≡ refusalBy (ltb 1 mode) (stateFits (row mode) s) (eqb (lane % 264) 0) (leb (lane / 264) 240) (roomFor (releases (s .waiting) (lane / 264)) octets statuses commands places patterns)
   unfolding refusalOf roomFor
@@ -92,7 +92,7 @@ room-is k octets statuses commands places patterns e =
       patterns-fit = leb-true _ _ (d .1);
     }
 
-none-refused : (wrong fits whole few room : Bool) → _≡_ {A = ℕ} (pick wrong 1 (pick fits (pick whole (pick few (pick room 0 7) 5) 4) 3)) 0 → (whole ≡ true) × (few ≡ true) × (room ≡ true)
+none-refused : (wrong fits whole few room : Bool) → refusalBy wrong fits whole few room ≡ 0 → (whole ≡ true) × (few ≡ true) × (room ≡ true)
 none-refused false true true true true e = (refl, refl, refl)
 none-refused false true true true false e = absurd (omega arith)
 none-refused false true true false room e = absurd (omega arith)
