@@ -7,3 +7,4 @@ pub mod Verdicts
 pub mod Accepted
 pub mod Buffers
 pub mod Hearing
+pub mod Turns

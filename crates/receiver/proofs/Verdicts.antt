@@ -50,6 +50,9 @@ verdict-cases R octets parity =
     picked (eqb difference 0) agrees _ (no-burst 0 (omega arith) (λ e. omega arith))
     (picked (R .repairs) (byBurst (burstFor difference)) failed (burst-cases difference (burstFor difference) (answers difference)) (no-burst 2 (omega arith) (λ e. omega arith)))
 
+pub small : (R : Row) (octets : List ℕ) (parity : ℕ) (v : Verdict) → v ≡ judged R octets parity → v .status ≤ 2
+small R octets parity v e = subst (λ (x : Verdict). x .status ≤ 2) (sym e) (verdict-cases R octets parity .status)
+
 -- ---- what is released
 
 -- a status is one of 0, 1, 2, 4, 5, 6; a place and a pattern stand with 1 and 5 alone

@@ -12,6 +12,8 @@ use borrow.Author.Count.{below-more}
 use borrow.Author.Tests.{le-ltb, lt-ltb, ltb-true, ltb-false, eq-eqb, ne-eqb}
 use lib.ListN.{length, getD, set, take, drop, length-set, length-append, length-take, length-drop}
 use lib.Seq.{take-suc, take-suc-set, take-all}
+use Rattle.receiver.specs.Release.{waitingAt}
+use Rattle.receiver.specs.Turn.{heardAt}
 use denote.Ref.{now}
 use Rattle.receiver.proofs.run.begin.Statement.{statement}
 use Rattle.receiver.proofs.run.begin.Tie as tie
@@ -25,7 +27,8 @@ hear-requires c κs = search needs
 
 -- src/run.rt:41:1
 returns : tie.Need-returns
-returns c = search needs
+unfolding heardAt waitingAt
+returns c = simp (c .before .hear .ensures)
 
 pub begin-spec : {M : Type 1} → statement M
 begin-spec = tie.close (tie.spec hear-requires returns)

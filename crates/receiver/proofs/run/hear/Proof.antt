@@ -12,6 +12,8 @@ use borrow.Author.Count.{below-more}
 use borrow.Author.Tests.{le-ltb, lt-ltb, ltb-true, ltb-false, eq-eqb, ne-eqb}
 use lib.ListN.{length, getD, set, take, drop, length-set, length-append, length-take, length-drop}
 use lib.Seq.{take-suc, take-suc-set, take-all}
+use lib.ListN.{replicate}
+use Rattle.receiver.proofs.Hearing.{heard-is}
 use denote.Ref.{now}
 use Rattle.receiver.proofs.run.hear.Statement.{statement}
 use Rattle.receiver.proofs.run.hear.Tie as tie
@@ -39,7 +41,12 @@ command-requires c κs = search needs
 
 -- src/run.rt:25:1
 returns : tie.Need-returns
-returns c = search needs
+returns c =
+    let a = c .before .before .before .before .before .before .args in
+    let r = c .before .before .before .read in
+    let e = r .ensures in
+    heard-is (a .mode) (now (a .lane)) (replicate 256 0) (c .before .before .before .before .before .before .pre) refl (r .result .refusal) (r .result .bits) (r .result .bad) (c .before .parity .result) (c .command .result) (r .last .1 .0)
+    (e .0) (e .1 .0) (e .1 .1 .0) (e .1 .1 .1) (c .before .parity .ensures) (c .command .ensures)
 
 pub hear-spec : {M : Type 1} → statement M
 hear-spec =

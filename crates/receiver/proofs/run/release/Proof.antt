@@ -12,6 +12,9 @@ use borrow.Author.Count.{below-more}
 use borrow.Author.Tests.{le-ltb, lt-ltb, ltb-true, ltb-false, eq-eqb, ne-eqb}
 use lib.ListN.{length, getD, set, take, drop, length-set, length-append, length-take, length-drop}
 use lib.Seq.{take-suc, take-suc-set, take-all}
+use Rattle.frame.specs.Modes.{row}
+use Rattle.receiver.proofs.Turns.{turned}
+use Rattle.receiver.proofs.Verdicts.{small}
 use denote.Ref.{now}
 use Rattle.receiver.proofs.run.release.Statement.{statement}
 use Rattle.receiver.proofs.run.release.Tie as tie
@@ -51,7 +54,10 @@ descramble-multiblock-requires c κs = search needs
 
 -- src/run.rt:79:19
 mark-requires : tie.Need-mark-requires
-mark-requires c κs = search needs
+mark-requires c κs =
+    let a = c .before .before .before .before .before .before .before .before .before .before .before .before .before .before .before .before .args in
+    let j = c .before .before .before .before .before .before .judge in
+    small (row (a .mode)) (a .state .octets) (c .before .before .before .before .before .before .before .before .before .hear .result .parity) (j .result) (j .ensures .0)
 
 -- src/run.rt:79:5
 slice-write-statuses : tie.Need-slice-write-statuses
@@ -115,7 +121,12 @@ same-length-5 c = search needs
 
 -- src/run.rt:57:1
 returns : tie.Need-returns
-returns c = search needs
+returns c =
+    let a = c .before .before .before .before .before .before .before .before .before .before .before .before .before .before .before .before .before .before .before .before .before .args in
+    let pre = c .before .before .before .before .before .before .before .before .before .before .before .before .before .before .before .before .before .before .before .before .before .pre in
+    let d = c .before .before .before .before .before .before .before .descramble-multiblock in
+    turned (a .mode) (a .state) (now (a .lane)) (a .k) (now (a .octets)) (now (a .statuses)) (now (a .commands)) (now (a .places)) (now (a .patterns)) _ (c .before .before .before .before .before .before .before .before .before .before .before .before .before .before .hear .result) (c .before .before .before .before .before .before .before .before .before .before .before .judge .result) (c .before .before .before .before .before .before .before .before .before .before .mend .result) (d .result) (c .before .before .before .before .mark .result) (c .before .before .history-of .result) (c .before .trusted-after .result)
+    (pre .0 .0) (pre .0 .2) (c .before .before .before .before .before .before .before .before .before .before .before .before .before .before .hear .ensures) (c .before .before .before .before .before .before .before .before .before .before .before .judge .ensures .0) (c .before .before .before .before .before .before .before .before .before .before .mend .ensures) (d .ensures .0) (d .ensures .1) (c .before .before .before .before .mark .ensures) (c .before .before .history-of .ensures) (c .before .trusted-after .ensures)
 
 pub release-spec : {M : Type 1} → statement M
 release-spec =
