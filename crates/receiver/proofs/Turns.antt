@@ -5,7 +5,8 @@ use mathlib.Core.Bool.{Bool, true}
 use mathlib.Core.List.{List, [], _∷_, _++_}
 use Prim.Native.Nat.{ℕ, _+_, _-_, _*_, _≤_, _<_}
 use native.Mathlib.Omega.{arith}
-use lib.ListN.{length, drop, set, length-set}
+use lib.ListN.{length, take, drop, set, length-set, length-drop}
+use lib.Seq.{take-all}
 use borrow.Rule.Slice.PartMut.{putMid, midOf, same-len-mid}
 use Rattle.bits.specs.Order.{bitAt, number, laid}
 use Rattle.frame.specs.Modes.{Row, row}
@@ -55,6 +56,10 @@ turned mode s lane k o st c p q o′ heard v whole refusal mark history trusted 
       places = rw own;
       patterns = rw own;
     }
+
+-- a part to the end is what is left
+pub rest-of : (lane : List ℕ) (a : ℕ) → take (length lane - a) (drop a lane) ≡ drop a lane
+rest-of lane a = take-all (length lane - a) (drop a lane) (simp length-drop (omega arith))
 
 -- ---- after k turns
 

@@ -12,6 +12,9 @@ use borrow.Author.Count.{below-more}
 use borrow.Author.Tests.{le-ltb, lt-ltb, ltb-true, ltb-false, eq-eqb, ne-eqb}
 use lib.ListN.{length, getD, set, take, drop, length-set, length-append, length-take, length-drop}
 use lib.Seq.{take-suc, take-suc-set, take-all}
+use Rattle.bits.specs.Order.{bitAt}
+use Rattle.frame.specs.Modes.{row}
+use Rattle.receiver.proofs.Turns.{Held, held-none, rest-of, still-waits, held-more, held-all}
 use denote.Ref.{now}
 use Rattle.receiver.proofs.run.run.Statement.{statement}
 use Rattle.receiver.proofs.run.run.Tie as tie
@@ -20,16 +23,14 @@ use Rattle.receiver.proofs.run.run.Lts as lts
 use Rattle.receiver.proofs.run.release.Reads as release-reads
 
 abbrev Inv-loop : tie.InvT-loop
-Inv-loop mode lane n octets₀ statuses₀ commands₀ places₀ patterns₀ state₀ k₀ octets statuses commands places patterns state k =
-    ?
+Inv-loop mode lane n octets₀ statuses₀ commands₀ places₀ patterns₀ state₀ k₀ octets statuses commands places patterns state k = (k ≤ n) × Held (row mode) (bitAt lane) state₀ k state octets₀ statuses₀ commands₀ places₀ patterns₀ octets statuses commands places patterns
 
 abbrev μ-loop : tie.MeasureT-loop
-μ-loop mode lane n octets₀ statuses₀ commands₀ places₀ patterns₀ state₀ k₀ octets statuses commands places patterns state k =
-    ?
+μ-loop mode lane n octets₀ statuses₀ commands₀ places₀ patterns₀ state₀ k₀ octets statuses commands places patterns state k = n - k
 
 -- src/run.rt:114:5
 loop-holds : tie.Need-loop-holds Inv-loop μ-loop
-loop-holds c = search needs
+loop-holds c = (search needs, held-none _ _ _ _ _ _ _ _)
 
 -- src/run.rt:118:19
 mul-release : tie.Need-mul-release Inv-loop μ-loop
@@ -65,7 +66,16 @@ part-release-end-2 c = search needs
 
 -- src/run.rt:115:13
 release-requires : tie.Need-release-requires Inv-loop μ-loop
-release-requires c κs = search needs
+release-requires c κs =
+    let a = c .before .before .before .before .before .before .before .before .before .before .before .before .before .before .args in
+    let pre = c .before .before .before .before .before .before .before .before .before .before .before .before .before .before .pre in
+    let l = c .before .before .before .before .before .before .before .loop in
+    let h = l .inv .1 in
+    let room = pre .1 in
+    let long = ap length (rest-of (now (a .lane)) (264 * l .k)) ∙ length-drop (264 * l .k) (now (a .lane)) in
+    let part = ap length (rest-of (l .octets) (256 * l .k)) ∙ length-drop (256 * l .k) (l .octets) in
+    let less = c .before .before .before .before .before .before .loop-test .taken in
+    ((still-waits (a .mode) (now (a .lane)) (a .start) (l .k) (a .n) (l .state) (now (a .octets)) (now (a .statuses)) (now (a .commands)) (now (a .places)) (now (a .patterns)) (l .octets) (l .statuses) (l .commands) (l .places) (l .patterns) (pre .0 .0) less room h, omega (arith, long, less, pre .0 .1), omega (arith, part, less, room .octets-fit, h .octets-long)), (omega (arith, less, pre .0 .2), omega (arith, less, room .statuses-fit, h .statuses-long), omega (arith, less, room .commands-fit, h .commands-long), omega (arith, less, room .places-fit, h .places-long), omega (arith, less, room .patterns-fit, h .patterns-long)))
 
 -- src/run.rt:114:9
 add-k : tie.Need-add-k Inv-loop μ-loop
@@ -77,7 +87,13 @@ loop-less c = search needs
 
 -- src/run.rt:114:5
 loop-again : tie.Need-loop-again Inv-loop μ-loop
-loop-again c = search needs
+loop-again c =
+    let a = c .before .before .before .before .before .before .before .before .before .before .before .before .before .before .before .before .before .before .before .before .before .before .before .before .before .args in
+    let pre = c .before .before .before .before .before .before .before .before .before .before .before .before .before .before .before .before .before .before .before .before .before .before .before .before .before .pre in
+    let l = c .before .before .before .before .before .before .before .before .before .before .before .before .before .before .before .before .before .before .loop in
+    let less = c .before .before .before .before .before .before .before .before .before .before .before .before .before .before .before .before .before .loop-test .taken in
+    let r = c .before .before .before .before .before .before .before .before .before .before .release in
+    (omega (arith, less), held-more (a .mode) (now (a .lane)) (a .start) (l .k) (a .n) (l .state) (now (a .octets)) (now (a .statuses)) (now (a .commands)) (now (a .places)) (now (a .patterns)) (l .octets) (l .statuses) (l .commands) (l .places) (l .patterns) (pre .0 .0) less (pre .1) (l .inv .1) _ (r .result) _ _ _ _ _ (rest-of (now (a .lane)) (264 * l .k)) (r .kept .1 .1 .1 .1 .0) (r .ensures))
 
 -- src/run.rt:96:1
 same-length : tie.Need-same-length Inv-loop μ-loop
@@ -101,7 +117,10 @@ same-length-5 c = search needs
 
 -- src/run.rt:96:1
 returns : tie.Need-returns Inv-loop μ-loop
-returns c = search needs
+returns c =
+    let a = c .before .before .before .before .before .before .before .before .args in
+    let l = c .before .loop in
+    held-all (row (a .mode)) (bitAt (now (a .lane))) (a .start) (l .k) (a .n) (l .state) _ _ _ _ _ _ _ _ _ _ (c .before .before .before .before .before .before .before .before .pre .0 .0) (omega (arith, c .loop-test .left, l .inv .0)) (l .inv .1)
 
 pub run-spec : {M : Type 1} → statement M
 run-spec =
