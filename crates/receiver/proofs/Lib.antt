@@ -8,3 +8,4 @@ pub mod Accepted
 pub mod Buffers
 pub mod Hearing
 pub mod Turns
+pub mod Answers
