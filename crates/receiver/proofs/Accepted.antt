@@ -1,16 +1,14 @@
 -- Every state that a run leaves is accepted again, and so is a fresh one: document 01, "Numbers of refusal". Assumes nothing.
-use mathlib.Core.Path.{_≡_, refl, sym, ap, _∙_, subst}
+use mathlib.Core.Path.{_≡_, refl, sym}
 use mathlib.Core.Bool.{Bool, true, false}
-use Prim.Native.Nat.{ℕ, zero, suc, _+_, _^_, _≤_, _<_}
-use native.Mathlib.Nat.{not-suc-le-zero}
+use Prim.Native.Nat.{ℕ, zero, suc, _+_, _^_, _<_}
 use native.Mathlib.Decide.{ℕ-discrete}
 use native.Mathlib.Omega.{arith}
 use borrow.Author.Tests.{eq-eqb, ne-eqb}
-use lib.Dec.{eqb, ltb, lit≤}
-use lib.ListN.{replicate}
+use lib.Dec.{eqb}
 use lib.Pow.{pow-pos}
 use Rattle.bits.specs.Choice.{pick}
-use Rattle.bits.specs.Order.{bitAt, number}
+use Rattle.bits.specs.Order.{bitAt}
 use Rattle.bits.proofs.Numbers.{bitAt-lt, number-lt}
 use Rattle.frame.specs.Modes.{Row}
 use Rattle.frame.specs.Lane.{syncBit, spoiltBit}

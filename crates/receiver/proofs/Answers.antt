@@ -1,24 +1,21 @@
 -- The four answers of the receiver's entry: refused, with one waiting, with nothing received, and begun afresh. Document 01, "What the receiver
 -- releases" and "Numbers of refusal". Assumes nothing.
-use mathlib.Core.Path.{_≡_, refl, sym, ap, ap₂, _∙_, subst}
+use mathlib.Core.Path.{_≡_, sym, ap, ap₂, _∙_, subst}
 use mathlib.Core.Bool.{Bool, true, false}
-use mathlib.Core.List.{List, [], _∷_, _++_}
-use Prim.Native.Nat.{ℕ, zero, suc, _+_, _-_, _*_, _/_, _≤_}
+use mathlib.Core.List.{List, []}
+use Prim.Native.Nat.{ℕ, _+_, _-_, _*_, _/_, _≤_}
 use native.Mathlib.Nat.{div-add-mod'}
 use native.Mathlib.Omega.{arith}
 use borrow.Author.Tests.{eq-eqb, ne-eqb}
-use lib.Dec.{eqb}
 use lib.ListN.{length, take, drop, length-drop}
-use Rattle.bits.specs.Choice.{pick}
 use Rattle.bits.specs.Order.{bitAt, laid}
 use Rattle.frame.specs.Modes.{row}
-use Rattle.frame.specs.Lane.{laneOctets}
 use Rattle.frame.proofs.Lane.{laneFrom, row-octets}
 use Rattle.receiver.specs.declared.Receiver.{Receiver}
 use Rattle.receiver.specs.declared.Received.{Received}
-use Rattle.receiver.specs.Release.{Step, waitingAt, step, run}
+use Rattle.receiver.specs.Release.{Step, waitingAt, run}
 use Rattle.receiver.specs.Refusal.{releases, refusalOf}
-use Rattle.receiver.specs.Entry.{Done, done, laidOut, octetsOut, listed, entry}
+use Rattle.receiver.specs.Entry.{done, laidOut, octetsOut, listed, entry}
 use Rattle.receiver.specs.Turn.{Room}
 use Rattle.receiver.proofs.Counts.{step-first}
 use Rattle.receiver.proofs.Cut.{then, run-cut, bits-from}

@@ -1,7 +1,7 @@
 -- One release more, laid over the buffers: its octets through the part that starts at its place, and one place of each list. Document 01,
 -- "What the receiver releases". Assumes nothing.
 use mathlib.Core.Path.{_≡_, refl, sym, ap, ap₂, _∙_}
-use mathlib.Core.Bool.{Bool, true}
+use mathlib.Core.Bool.{true}
 use mathlib.Core.List.{List, [], _∷_, _++_, append-assoc}
 use Prim.Native.Nat.{ℕ, zero, suc, _+_, _-_, _*_, _≤_, _<_}
 use native.Mathlib.Numerals.{add-one}
@@ -9,10 +9,8 @@ use native.Mathlib.Omega.{arith}
 use lib.ListN.{length, getD, take, drop, set, length-append, length-drop}
 use lib.Seq.{drop-drop, drop-cons, set-at, take-at, drop-at, take-all, drop-length}
 use borrow.Rule.Slice.PartMut.{putMid, midOf, postOf, post-is}
-use Rattle.bits.specs.Order.{bitAt, laid}
-use Rattle.bits.proofs.Laid.{length-octets}
+use Rattle.bits.specs.Order.{laid}
 use Rattle.frame.specs.Modes.{Row}
-use Rattle.frame.specs.Scrambling.{descrambled, plain}
 use Rattle.frame.proofs.Scrambling.{length-descrambled}
 use Rattle.receiver.specs.declared.Receiver.{Receiver}
 use Rattle.receiver.specs.Release.{Release, Step, mendedAt, releaseAt, run}

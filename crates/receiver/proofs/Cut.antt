@@ -1,6 +1,6 @@
 -- A step goes by what is heard of its multiblock and by nothing else; so a run may be cut at any multiblock, and lanes that read alike release
 -- alike: document 01, "What the receiver releases". Assumes nothing.
-use mathlib.Core.Path.{_≡_, refl, sym, ap, ap₂, _∙_, fun-ext}
+use mathlib.Core.Path.{_≡_, refl, sym, ap, _∙_, fun-ext}
 use mathlib.Core.Bool.{Bool, true, false}
 use mathlib.Core.List.{List, [], _∷_, _++_, append-assoc}
 use Prim.Native.Nat.{ℕ, zero, suc, _+_, _-_, _*_, _<_}
@@ -11,11 +11,10 @@ use Rattle.bits.specs.Choice.{pick}
 use Rattle.bits.specs.Order.{bitAt, number}
 use Rattle.bits.proofs.Octets.{bit-drop}
 use Rattle.frame.specs.Modes.{Row, row}
-use Rattle.frame.specs.Lane.{laneOctets, dataBit, dataOctets, syncBit, spoiltBit}
+use Rattle.frame.specs.Lane.{laneOctets, dataBit, syncBit, spoiltBit}
 use Rattle.frame.specs.SyncWord.{readParity, markedCommand}
 use Rattle.frame.specs.Scrambling.{descrambled}
 use Rattle.frame.proofs.Lane.{laneFrom, octets-moved, sync-moved, spoilt-moved, same-octets, row-octets}
-use Rattle.receiver.specs.declared.Verdict.{Verdict}
 use Rattle.receiver.specs.declared.Receiver.{Receiver}
 use Rattle.receiver.specs.declared.run.Heard.{Heard}
 use Rattle.receiver.specs.Judge.{judged, mended, marked, trustedAfter}

@@ -1,5 +1,5 @@
 -- What the parts of a multiblock make when they are read: clauses 7.2.2 and 7.3. Assumes nothing.
-use mathlib.Core.Path.{_≡_, refl, sym, ap, ap₂, _∙_}
+use mathlib.Core.Path.{_≡_, ap, ap₂, _∙_}
 use mathlib.Core.Bool.{Bool}
 use mathlib.Core.List.{List}
 use Prim.Native.Nat.{ℕ, _≤_}
@@ -8,7 +8,7 @@ use borrow.Author.Tests.{eq-eqb}
 use lib.Dec.{eqb}
 use lib.ListN.{length}
 use Rattle.bits.specs.Choice.{pick}
-use Rattle.bits.specs.Order.{bitAt, number, digit, laid}
+use Rattle.bits.specs.Order.{bitAt, number, digit}
 use Rattle.bits.proofs.Laid.{laid-whole}
 use Rattle.frame.specs.Modes.{row}
 use Rattle.frame.specs.Lane.{dataOctets, syncBit, spoiltBit}
@@ -17,7 +17,6 @@ use Rattle.frame.specs.SyncWord.{readParity, markedCommand}
 use Rattle.frame.proofs.Lane.{syncBit-lt, spoiltBit-lt, length-data, row-gap}
 use Rattle.frame.proofs.Parts.{not-refused, laid-where-accepted}
 use Rattle.frame.proofs.SyncWord.{row-stands, number-parity, number-marked}
-use Rattle.receiver.specs.declared.run.Heard.{Heard}
 use Rattle.receiver.specs.Turn.{heardAt}
 
 module _ (mode : ℕ) (lane lent : List ℕ) (long : 264 ≤ length lane) (whole : length lent ≡ 256) where

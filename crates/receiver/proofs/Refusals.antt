@@ -1,14 +1,12 @@
 -- What each refusal stands for, and what an accepted call has: document 01, "Numbers of refusal". Assumes nothing.
 use mathlib.Core.Path.{_≡_, refl, sym, ap, ap₂, _∙_}
 use mathlib.Core.Bool.{Bool, true, false, not, _&&_, _||_}
-use mathlib.Core.List.{List}
 use Prim.Native.Nat.{ℕ, _-_, _*_, _/_, _%_, _^_, _≤_, _<_}
 use native.Mathlib.Omega.{arith}
-use borrow.Author.Tests.{lt-ltb, le-ltb, eq-eqb, ltb-false, leb-true, eqb-true}
+use borrow.Author.Tests.{lt-ltb, le-ltb, eq-eqb, leb-true, eqb-true}
 use lib.Dec.{ltb, leb, eqb}
 use Rattle.bits.specs.Choice.{pick}
 use Rattle.frame.specs.Modes.{Row, row}
-use Rattle.frame.specs.Lane.{laneOctets}
 use Rattle.frame.proofs.Lane.{row-octets, row-most}
 use Rattle.receiver.specs.declared.Receiver.{Receiver}
 use Rattle.receiver.specs.Refusal.{commandBound, allZero, stateFits, releases, refusalOf}

@@ -1,127 +1,90 @@
 -- `receiver::receive` meets its contract.
 -- Assumes nothing.
 use borrow.Author.Needs.{needs}
-use Prim.Native.Nat.{ℕ, suc, _+_, _-_, _*_, _/_, _%_, _^_, _≤_, _<_}
-use mathlib.Core.Path.{_≡_, refl, sym, ap, _∙_, subst}
-use mathlib.Core.List.{List, [], _∷_, _++_}
-use mathlib.Core.Bool.{Bool, true, false}
-use mathlib.Core.Logic.{⊎-elim}
-use native.Mathlib.Numerals.{add-one}
-use native.Mathlib.Omega.{arith}
-use borrow.Author.Count.{below-more}
-use borrow.Author.Tests.{le-ltb, lt-ltb, ltb-true, ltb-false, eq-eqb, ne-eqb}
-use lib.ListN.{length, getD, set, take, drop, length-set, length-append, length-take, length-drop}
-use lib.Seq.{take-suc, take-suc-set, take-all}
+use Prim.Native.Nat.{_-_}
 use Rattle.receiver.proofs.Answers.{is-refused, waits, is-all, is-none, begins, is-later}
 use denote.Ref.{now}
 use Rattle.receiver.proofs.receive.Statement.{statement}
 use Rattle.receiver.proofs.receive.Tie as tie
-use Rattle.receiver.proofs.receive.Reads as reads
-use Rattle.receiver.proofs.receive.Lts as lts
-use Rattle.receiver.proofs.refusal.refusal_of.Reads as refusal-of-reads
-use Rattle.receiver.proofs.run.begin.Reads as begin-reads
-use Rattle.receiver.proofs.run.run.Reads as run-reads
 
--- src/lib.rt:63:9
 refusal-of-requires : tie.Need-refusal-of-requires
 refusal-of-requires c κs = search needs
 
--- src/lib.rt:74:9
 returns : tie.Need-returns
 returns c =
     let a = c .before .before .before .before .before .before .before .before .args in
     let f = c .before .refusal-of in
     is-refused (a .mode) (a .state) (now (a .lane)) (now (a .octets)) (now (a .statuses)) (now (a .commands)) (now (a .places)) (now (a .patterns)) (f .result) (f .ensures) (c .if1 .taken)
 
--- src/lib.rt:82:9
 run-requires : tie.Need-run-requires
 run-requires c κs =
     let a = c .before .before .before .before .before .before .before .before .before .before .before .before .before .before .args in
     let f = c .before .before .before .before .before .before .before .refusal-of in
     waits (a .mode) (a .state) (now (a .lane)) (now (a .octets)) (now (a .statuses)) (now (a .commands)) (now (a .places)) (now (a .patterns)) (f .result) (f .ensures) (c .before .before .before .before .before .before .if1 .left) (c .before .before .before .before .before .if2 .taken)
 
--- src/lib.rt:82:9
 same-length : tie.Need-same-length
 same-length c = search needs
 
--- src/lib.rt:82:9
 same-length-2 : tie.Need-same-length-2
 same-length-2 c = search needs
 
--- src/lib.rt:82:9
 same-length-3 : tie.Need-same-length-3
 same-length-3 c = search needs
 
--- src/lib.rt:82:9
 same-length-4 : tie.Need-same-length-4
 same-length-4 c = search needs
 
--- src/lib.rt:82:9
 same-length-5 : tie.Need-same-length-5
 same-length-5 c = search needs
 
--- src/lib.rt:82:9
 returns-2 : tie.Need-returns-2
 returns-2 c =
     let a = c .before .before .before .before .before .before .before .before .before .before .before .before .before .before .before .before .before .before .before .before .before .before .before .before .before .args in
     let f = c .before .before .before .before .before .before .before .before .before .before .before .before .before .before .before .before .before .before .refusal-of in
     is-all (a .mode) (a .state) (now (a .lane)) (now (a .octets)) (now (a .statuses)) (now (a .commands)) (now (a .places)) (now (a .patterns)) (f .result) (f .ensures) (c .before .before .before .before .before .before .before .before .before .before .before .before .before .before .before .before .before .if1 .left) (c .before .before .before .before .before .before .before .before .before .before .run .result) _ _ _ _ _ (c .before .before .before .before .before .before .before .before .before .before .run .ensures)
 
--- src/lib.rt:95:9
 returns-3 : tie.Need-returns-3
 returns-3 c =
     let a = c .before .before .before .before .before .before .before .before .before .before .args in
     let f = c .before .before .before .refusal-of in
     is-none (a .mode) (a .state) (now (a .lane)) (now (a .octets)) (now (a .statuses)) (now (a .commands)) (now (a .places)) (now (a .patterns)) (f .result) (f .ensures) (c .before .before .if1 .left) (c .if3 .taken)
 
--- src/lib.rt:101:9
 begin-requires : tie.Need-begin-requires
 begin-requires c κs = search needs
 
--- src/lib.rt:105:9
 sub-run : tie.Need-sub-run
 sub-run c = search needs
 
--- src/lib.rt:105:9
 part-run-start : tie.Need-part-run-start
 part-run-start c = search needs
 
--- src/lib.rt:105:9
 part-run-end : tie.Need-part-run-end
 part-run-end c = search needs
 
--- src/lib.rt:106:9
 sub-run-2 : tie.Need-sub-run-2
 sub-run-2 c = search needs
 
--- src/lib.rt:102:5
 run-requires-2 : tie.Need-run-requires-2
 run-requires-2 c κs =
     let a = c .before .before .before .before .before .before .before .before .before .before .before .before .before .before .before .before .before .args in
     let f = c .before .before .before .before .before .before .before .before .before .before .refusal-of in
     begins (a .mode) (a .state) (now (a .lane)) (now (a .octets)) (now (a .statuses)) (now (a .commands)) (now (a .places)) (now (a .patterns)) (f .result) (f .ensures) (c .before .before .before .before .before .before .before .before .before .if1 .left) (c .before .before .before .before .before .before .begin .result) (c .before .before .before .before .before .before .before .before .if2 .left) (c .before .before .before .before .before .before .before .if3 .left) (c .before .before .before .before .before .before .begin .ensures)
 
--- src/lib.rt:50:1
 same-length-6 : tie.Need-same-length-6
 same-length-6 c = search needs
 
--- src/lib.rt:50:1
 same-length-7 : tie.Need-same-length-7
 same-length-7 c = search needs
 
--- src/lib.rt:50:1
 same-length-8 : tie.Need-same-length-8
 same-length-8 c = search needs
 
--- src/lib.rt:50:1
 same-length-9 : tie.Need-same-length-9
 same-length-9 c = search needs
 
--- src/lib.rt:50:1
 same-length-10 : tie.Need-same-length-10
 same-length-10 c = search needs
 
--- src/lib.rt:50:1
 returns-4 : tie.Need-returns-4
 returns-4 c =
     let a = c .before .before .before .before .before .before .before .before .before .before .before .before .before .before .before .before .before .before .before .before .before .before .before .before .before .before .before .before .args in

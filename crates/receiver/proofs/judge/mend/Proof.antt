@@ -1,25 +1,14 @@
 -- `receiver::judge::mend` meets its contract.
 -- Assumes nothing.
 use borrow.Author.Needs.{needs}
-use Prim.Native.Nat.{ℕ, suc, _+_, _-_, _*_, _/_, _%_, _^_, _≤_, _<_}
-use mathlib.Core.Path.{_≡_, refl, sym, ap, _∙_, subst}
-use mathlib.Core.List.{List, [], _∷_, _++_}
-use mathlib.Core.Bool.{Bool, true, false}
+use Prim.Native.Nat.{_-_, _%_}
+use mathlib.Core.Path.{_≡_, refl, _∙_}
 use mathlib.Core.Logic.{⊎-elim}
-use native.Mathlib.Numerals.{add-one}
 use native.Mathlib.Omega.{arith}
-use borrow.Author.Count.{below-more}
-use borrow.Author.Tests.{le-ltb, lt-ltb, ltb-true, ltb-false, eq-eqb, ne-eqb}
-use lib.ListN.{length, getD, set, take, drop, length-set, length-append, length-take, length-drop}
-use lib.Seq.{take-suc, take-suc-set, take-all}
-use Rattle.receiver.specs.Judge.{mended}
 use Rattle.receiver.proofs.Mending.{flipAt, Mending, flip-next, skip-parity, skip-even, all-flipped}
-use lib.Bits.{bitAnd, bitXor, and-mask}
-use denote.Ref.{now}
+use lib.Bits.{bitAnd, and-mask}
 use Rattle.receiver.proofs.judge.mend.Statement.{statement}
 use Rattle.receiver.proofs.judge.mend.Tie as tie
-use Rattle.receiver.proofs.judge.mend.Reads as reads
-use Rattle.receiver.proofs.judge.mend.Lts as lts
 
 abbrev Inv-loop : tie.InvT-loop
 Inv-loop out₀ left₀ position₀ out left position = Mending out₀ position₀ left₀ out position left
@@ -27,39 +16,30 @@ Inv-loop out₀ left₀ position₀ out left position = Mending out₀ position�
 abbrev μ-loop : tie.MeasureT-loop
 μ-loop out₀ left₀ position₀ out left position = left
 
--- src/judge.rt:69:24
 cast-position : tie.Need-cast-position Inv-loop μ-loop
 cast-position c = search needs
 
--- src/judge.rt:70:5
 loop-holds : tie.Need-loop-holds Inv-loop μ-loop
 loop-holds c = let pre = c .before .pre in record { long = pre .0; octet-lt = pre .1; near = omega arith; same = refl }
 
--- src/judge.rt:73:37
 array-read-out : tie.Need-array-read-out Inv-loop μ-loop
 array-read-out c = search needs
 
--- src/judge.rt:73:68
 cast-out : tie.Need-cast-out Inv-loop μ-loop
 cast-out c = search needs
 
--- src/judge.rt:73:58
 shr-out : tie.Need-shr-out Inv-loop μ-loop
 shr-out c = search needs
 
--- src/judge.rt:73:17
 array-write-out : tie.Need-array-write-out Inv-loop μ-loop
 array-write-out c = search needs
 
--- src/judge.rt:77:9
 add-position : tie.Need-add-position Inv-loop μ-loop
 add-position c = let k = c .before .before .before .struct-known .given in omega (arith, k .1 .0 .fits, k .1 .1 .0 .fits, c .before .before .loop .inv .near)
 
--- src/judge.rt:70:5
 loop-less : tie.Need-loop-less Inv-loop μ-loop
 loop-less c = search needs
 
--- src/judge.rt:70:5
 loop-again : tie.Need-loop-again Inv-loop μ-loop
 unfolding flipAt
 loop-again c =
@@ -69,7 +49,6 @@ loop-again c =
     ⊎-elim (λ t. flip-next (l .inv) some (t .2) (t .1 .taken) (omega (arith, low, t .0 .taken)))
     (λ u. ⊎-elim (λ t. skip-parity (l .inv) some (t .2) (t .1 .left)) (λ t. skip-even (l .inv) some (t .1) (λ e. t .0 .left (low ∙ e))) u) (c .if1 .came)
 
--- src/judge.rt:63:1
 returns : tie.Need-returns Inv-loop μ-loop
 returns c = all-flipped (c .before .before .before .args .verdict) (c .before .loop .inv) (omega (arith, c .loop-test .left))
 

@@ -1,25 +1,20 @@
 -- `receiver::refusal::all_zero` meets its contract.
 -- Assumes nothing.
 use borrow.Author.Needs.{needs}
-use Prim.Native.Nat.{ℕ, suc, _+_, _-_, _*_, _/_, _%_, _^_, _≤_, _<_}
-use mathlib.Core.Path.{_≡_, refl, sym, ap, _∙_, subst}
-use mathlib.Core.List.{List, [], _∷_, _++_}
-use mathlib.Core.Bool.{Bool, true, false}
-use mathlib.Core.Logic.{⊎-elim}
+use Prim.Native.Nat.{ℕ, _+_, _-_, _≤_, _<_}
+use mathlib.Core.Path.{_≡_, refl, sym, _∙_}
+use mathlib.Core.List.{List}
+use mathlib.Core.Bool.{true, false}
 use native.Mathlib.Numerals.{add-one}
 use native.Mathlib.Omega.{arith}
-use borrow.Author.Count.{below-more}
-use borrow.Author.Tests.{le-ltb, lt-ltb, ltb-true, ltb-false, eq-eqb, ne-eqb}
-use lib.ListN.{length, getD, set, take, drop, length-set, length-append, length-take, length-drop}
-use lib.Seq.{take-suc, take-suc-set, take-all}
+use borrow.Author.Tests.{ne-eqb}
+use lib.ListN.{length, getD, drop}
 use lib.Seq.{drop-cons}
 use lib.ListN.{drop-of-length-le}
 use Rattle.receiver.specs.Refusal.{allZero}
 use denote.Ref.{now}
 use Rattle.receiver.proofs.refusal.all_zero.Statement.{statement}
 use Rattle.receiver.proofs.refusal.all_zero.Tie as tie
-use Rattle.receiver.proofs.refusal.all_zero.Reads as reads
-use Rattle.receiver.proofs.refusal.all_zero.Lts as lts
 
 module _ (octets : List ℕ) (i : ℕ) (e : allZero octets ≡ allZero (drop i octets)) where
   found : i < length octets → (getD octets i 0 ≡ 0 → ⊥) → false ≡ allZero octets
@@ -40,35 +35,28 @@ Inv-loop octets i₀ i-end i = (i-end ≡ length octets) × (i ≤ length octets
 abbrev μ-loop : tie.MeasureT-loop
 μ-loop octets i₀ i-end i = length octets - i
 
--- src/refusal.rt:12:5
 loop-holds : tie.Need-loop-holds Inv-loop μ-loop
 loop-holds c = (refl, search needs, refl)
 
--- src/refusal.rt:13:12
 shared-slice-read-if1 : tie.Need-shared-slice-read-if1 Inv-loop μ-loop
 shared-slice-read-if1 c = search needs
 
--- src/refusal.rt:14:13
 returns : tie.Need-returns Inv-loop μ-loop
 returns c =
     let l = c .before .before .before .loop in
     found (now (c .before .before .before .before .args .octets)) (l .i) (l .inv .2) (omega arith) (c .if1 .taken)
 
--- src/refusal.rt:12:9
 add-i : tie.Need-add-i Inv-loop μ-loop
 add-i c = search needs
 
--- src/refusal.rt:12:5
 loop-less : tie.Need-loop-less Inv-loop μ-loop
 loop-less c = search needs
 
--- src/refusal.rt:12:5
 loop-again : tie.Need-loop-again Inv-loop μ-loop
 loop-again c =
     let l = c .before .before .before .loop in
     (l .inv .0, omega arith, passed (now (c .before .before .before .before .args .octets)) (l .i) (l .inv .2) (omega arith) (c .if1 .left))
 
--- src/refusal.rt:9:1
 returns-2 : tie.Need-returns-2 Inv-loop μ-loop
 returns-2 c =
     let l = c .before .loop in

@@ -1,26 +1,16 @@
 -- `receiver::run::run` meets its contract.
 -- Assumes nothing.
 use borrow.Author.Needs.{needs}
-use Prim.Native.Nat.{ℕ, suc, _+_, _-_, _*_, _/_, _%_, _^_, _≤_, _<_}
-use mathlib.Core.Path.{_≡_, refl, sym, ap, _∙_, subst}
-use mathlib.Core.List.{List, [], _∷_, _++_}
-use mathlib.Core.Bool.{Bool, true, false}
-use mathlib.Core.Logic.{⊎-elim}
-use native.Mathlib.Numerals.{add-one}
+use Prim.Native.Nat.{_-_, _*_, _≤_}
+use mathlib.Core.Path.{ap, _∙_}
 use native.Mathlib.Omega.{arith}
-use borrow.Author.Count.{below-more}
-use borrow.Author.Tests.{le-ltb, lt-ltb, ltb-true, ltb-false, eq-eqb, ne-eqb}
-use lib.ListN.{length, getD, set, take, drop, length-set, length-append, length-take, length-drop}
-use lib.Seq.{take-suc, take-suc-set, take-all}
+use lib.ListN.{length, length-drop}
 use Rattle.bits.specs.Order.{bitAt}
 use Rattle.frame.specs.Modes.{row}
 use Rattle.receiver.proofs.Turns.{Held, held-none, rest-of, still-waits, held-more, held-all}
 use denote.Ref.{now}
 use Rattle.receiver.proofs.run.run.Statement.{statement}
 use Rattle.receiver.proofs.run.run.Tie as tie
-use Rattle.receiver.proofs.run.run.Reads as reads
-use Rattle.receiver.proofs.run.run.Lts as lts
-use Rattle.receiver.proofs.run.release.Reads as release-reads
 
 abbrev Inv-loop : tie.InvT-loop
 Inv-loop mode lane n octets₀ statuses₀ commands₀ places₀ patterns₀ state₀ k₀ octets statuses commands places patterns state k = (k ≤ n) × Held (row mode) (bitAt lane) state₀ k state octets₀ statuses₀ commands₀ places₀ patterns₀ octets statuses commands places patterns
@@ -28,43 +18,33 @@ Inv-loop mode lane n octets₀ statuses₀ commands₀ places₀ patterns₀ sta
 abbrev μ-loop : tie.MeasureT-loop
 μ-loop mode lane n octets₀ statuses₀ commands₀ places₀ patterns₀ state₀ k₀ octets statuses commands places patterns state k = n - k
 
--- src/run.rt:114:5
 loop-holds : tie.Need-loop-holds Inv-loop μ-loop
 loop-holds c = (search needs, held-none _ _ _ _ _ _ _ _)
 
--- src/run.rt:118:19
 mul-release : tie.Need-mul-release Inv-loop μ-loop
 mul-release c = search needs
 
--- src/run.rt:118:13
 sub-release : tie.Need-sub-release Inv-loop μ-loop
 sub-release c = search needs
 
--- src/run.rt:118:13
 part-release-start : tie.Need-part-release-start Inv-loop μ-loop
 part-release-start c = search needs
 
--- src/run.rt:118:13
 part-release-end : tie.Need-part-release-end Inv-loop μ-loop
 part-release-end c = search needs
 
--- src/run.rt:120:25
 mul-release-2 : tie.Need-mul-release-2 Inv-loop μ-loop
 mul-release-2 c = search needs
 
--- src/run.rt:120:13
 sub-release-2 : tie.Need-sub-release-2 Inv-loop μ-loop
 sub-release-2 c = search needs
 
--- src/run.rt:120:13
 part-release-start-2 : tie.Need-part-release-start-2 Inv-loop μ-loop
 part-release-start-2 c = search needs
 
--- src/run.rt:120:13
 part-release-end-2 : tie.Need-part-release-end-2 Inv-loop μ-loop
 part-release-end-2 c = search needs
 
--- src/run.rt:115:13
 release-requires : tie.Need-release-requires Inv-loop μ-loop
 release-requires c κs =
     let a = c .before .before .before .before .before .before .before .before .before .before .before .before .before .before .args in
@@ -77,15 +57,12 @@ release-requires c κs =
     let less = c .before .before .before .before .before .before .loop-test .taken in
     ((still-waits (a .mode) (now (a .lane)) (a .start) (l .k) (a .n) (l .state) (now (a .octets)) (now (a .statuses)) (now (a .commands)) (now (a .places)) (now (a .patterns)) (l .octets) (l .statuses) (l .commands) (l .places) (l .patterns) (pre .0 .0) less room h, omega (arith, long, less, pre .0 .1), omega (arith, part, less, room .octets-fit, h .octets-long)), (omega (arith, less, pre .0 .2), omega (arith, less, room .statuses-fit, h .statuses-long), omega (arith, less, room .commands-fit, h .commands-long), omega (arith, less, room .places-fit, h .places-long), omega (arith, less, room .patterns-fit, h .patterns-long)))
 
--- src/run.rt:114:9
 add-k : tie.Need-add-k Inv-loop μ-loop
 add-k c = search needs
 
--- src/run.rt:114:5
 loop-less : tie.Need-loop-less Inv-loop μ-loop
 loop-less c = search needs
 
--- src/run.rt:114:5
 loop-again : tie.Need-loop-again Inv-loop μ-loop
 loop-again c =
     let a = c .before .before .before .before .before .before .before .before .before .before .before .before .before .before .before .before .before .before .before .before .before .before .before .before .before .args in
@@ -95,27 +72,21 @@ loop-again c =
     let r = c .before .before .before .before .before .before .before .before .before .before .release in
     (omega (arith, less), held-more (a .mode) (now (a .lane)) (a .start) (l .k) (a .n) (l .state) (now (a .octets)) (now (a .statuses)) (now (a .commands)) (now (a .places)) (now (a .patterns)) (l .octets) (l .statuses) (l .commands) (l .places) (l .patterns) (pre .0 .0) less (pre .1) (l .inv .1) _ (r .result) _ _ _ _ _ (rest-of (now (a .lane)) (264 * l .k)) (r .kept .1 .1 .1 .1 .0) (r .ensures))
 
--- src/run.rt:96:1
 same-length : tie.Need-same-length Inv-loop μ-loop
 same-length c = search needs
 
--- src/run.rt:96:1
 same-length-2 : tie.Need-same-length-2 Inv-loop μ-loop
 same-length-2 c = search needs
 
--- src/run.rt:96:1
 same-length-3 : tie.Need-same-length-3 Inv-loop μ-loop
 same-length-3 c = search needs
 
--- src/run.rt:96:1
 same-length-4 : tie.Need-same-length-4 Inv-loop μ-loop
 same-length-4 c = search needs
 
--- src/run.rt:96:1
 same-length-5 : tie.Need-same-length-5 Inv-loop μ-loop
 same-length-5 c = search needs
 
--- src/run.rt:96:1
 returns : tie.Need-returns Inv-loop μ-loop
 returns c =
     let a = c .before .before .before .before .before .before .before .before .args in
