@@ -1,6 +1,7 @@
 -- Laws of scrambling, over streams: each sent bit is the user's and the bits sent 39 and 58 before, descrambling undoes it, and only the 58
 -- latest bits count. Clause 7.2.4; document 01, "From octets to lane bits". Assumes nothing.
 use mathlib.Core.Path.{_≡_, refl, sym, ap, ap₂, _∙_}
+use mathlib.Core.List.{List}
 use mathlib.Core.Logic.{_⊎_, inl, inr}
 use Prim.Native.Nat.{ℕ, zero, suc, _+_, _-_, _*_, _/_, _%_, _^_, _≤_, _<_}
 use native.Mathlib.Nat.{zero-lt-suc, div-one, mod-lt, mod-one, zero-add, add-zero, add-suc, suc-add}
@@ -8,13 +9,15 @@ use native.Mathlib.Numerals.{one-add, add-one}
 use native.Mathlib.Decide.{decLe}
 use native.Mathlib.Omega.{arith}
 use lib.Dec.{leb, le→leb, leb→le, not-T}
+use lib.ListN.{length}
 use lib.Pow.{pow-pos, shr-shr, high, low, mod-mod-pow, mod-pow-add}
 use lib.Bits.{bitXor, xor-lt, xor-self, xor-zero-r}
-use Rattle.bits.specs.Order.{number}
+use Rattle.bits.specs.Order.{bitAt, number}
 use Rattle.bits.proofs.Xor.{xor-assoc}
 use Rattle.bits.proofs.Numbers.{low-digit}
+use Rattle.bits.proofs.Octets.{length-octetsOf}
 use Rattle.bits.proofs.Choice.{pick-true, pick-false}
-use Rattle.frame.specs.Scrambling.{sentBit, allSent, sent, historyAfter, earlier, plain}
+use Rattle.frame.specs.Scrambling.{sentBit, allSent, sent, historyAfter, earlier, plain, descrambled}
 
 -- ---- the bit d places before
 
@@ -255,3 +258,9 @@ module _ (user : ℕ → ℕ) (bits : (k : ℕ) → user k < 2) (history a n : �
   pub undone-from : (given q : ℕ) → q < n → (58 ≤ q) ⊎ (given % 2 ^ 58 ≡ historyAfter user history a) → plain given stream q ≡ user (a + q)
   undone-from given q l (inl m) = late given (historyAfter user history a) stream q m ∙ right q l
   undone-from given q l (inr e) = sym (recent-plain given stream q) ∙ ap (λ (x : ℕ). plain x stream q) e ∙ right q l
+
+-- ---- octets
+
+pub length-descrambled : (octets : List ℕ) (history n : ℕ) → length (descrambled octets history n) ≡ n
+unfolding descrambled
+length-descrambled octets history n = length-octetsOf (plain history (bitAt octets)) n

@@ -7,7 +7,7 @@ use lib.Dec.{eqb}
 use lib.ListN.{length}
 use Rattle.bits.specs.Choice.{pick}
 use Rattle.bits.specs.Order.{bitAt}
-use Rattle.bits.proofs.Laid.{length-octets}
+use Rattle.bits.proofs.Octets.{length-octetsOf}
 use Rattle.parity.proofs.Bursts.{Proper, crc12-proper, fec-proper}
 use Rattle.frame.specs.Modes.{Row, row, crc12Row, fecRow}
 use Rattle.frame.specs.Scrambling.{sent, scrambled}
@@ -36,8 +36,8 @@ row-octets = of-each (λ (R : Row). laneOctets (R .gap) ≡ 264) refl refl
 
 pub length-multiblock : (gap sync : ℕ) (octets : List ℕ) → length (multiblock gap sync octets) ≡ laneOctets gap
 unfolding multiblock
-length-multiblock gap sync octets = length-octets (multiblockBit gap sync octets) (laneOctets gap)
+length-multiblock gap sync octets = length-octetsOf (multiblockBit gap sync octets) (laneOctets gap)
 
 pub length-scrambled : (octets : List ℕ) (history n : ℕ) → length (scrambled octets history n) ≡ n
 unfolding scrambled
-length-scrambled octets history n = length-octets (sent (bitAt octets) history) n
+length-scrambled octets history n = length-octetsOf (sent (bitAt octets) history) n

@@ -210,6 +210,24 @@ module _ (R : Row) (a b : ℕ → ℕ) where
       let w = R .commandWidth in
       number-ext (λ j. a (place R (command (w - 1 - j)))) (λ j. b (place R (command (w - 1 - j)))) 0 0 w (λ j h. e (w - 1 - (0 + j)) (omega arith))
 
+-- 32 sync bits are read alike as a stream and as the number they write
+module _ (R : Row) (s : Stands R) where
+  module _ (bits : ℕ → ℕ) (d : (t : ℕ) → bits t < 2) where
+    bit-there : (x : Field) → place R x < 32 → digit 32 (number bits 0 32) (place R x) ≡ bits (place R x)
+    bit-there x h = digit-number bits d 0 32 (place R x) h ∙ ap bits (zero-add (place R x))
+
+    pub number-parity : readParity R (digit 32 (number bits 0 32)) ≡ readParity R bits
+    number-parity = only-parity R (digit 32 (number bits 0 32)) bits (λ k h. bit-there (parity k) (s .parities k h))
+
+    number-command : readCommand R (digit 32 (number bits 0 32)) ≡ readCommand R bits
+    number-command = only-command R (digit 32 (number bits 0 32)) bits (λ k h. bit-there (command k) (s .commands k h))
+
+  pub number-marked : (bits bad : ℕ → ℕ) → ((t : ℕ) → bits t < 2) → ((t : ℕ) → bad t < 2)
+      → markedCommand R (digit 32 (number bits 0 32)) (digit 32 (number bad 0 32)) ≡ markedCommand R bits bad
+  unfolding markedCommand
+  number-marked bits bad d e =
+      ap₂ (λ (x y : ℕ). x + pick (leb 1 y) (2 ^ R .commandWidth) 0) (number-command bits d) (number-command bad e)
+
 module _ (R : Row) (bits : ℕ → ℕ) (d : (t : ℕ) → bits t < 2) where
   pub readParity-lt : readParity R bits < 2 ^ R .code .width
   unfolding readParity

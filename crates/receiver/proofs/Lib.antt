@@ -1,2 +1,12 @@
--- Laws of the receiver that no one function owns.
+-- Laws of what the receiver releases.
+pub mod Mending
+pub mod Refusals
+pub mod Cut
+pub mod Counts
+pub mod Verdicts
+pub mod Accepted
+pub mod Buffers
+pub mod Hearing
+pub mod Turns
+pub mod Answers
 pub mod Spans

@@ -1,6 +1,5 @@
 -- What a call of the receiver answers, and what the lent buffers hold after it: document 01, "What the receiver releases" and "Numbers of
 -- refusal". Assumes nothing.
-use mathlib.Core.Bool.{Bool, true, false}
 use mathlib.Core.List.{List, [], _∷_, _++_}
 use Prim.Native.Nat.{ℕ, _/_}
 use lib.Dec.{eqb}

@@ -1,5 +1,5 @@
 -- How a waiting multiblock is judged and mended: document 01, "What the receiver releases"; clauses 7.4.1, 7.5.1 and 7.5.3. Assumes nothing.
-use mathlib.Core.Bool.{Bool, true, false, not}
+use mathlib.Core.Bool.{Bool, not}
 use mathlib.Core.List.{List}
 use Prim.Native.Nat.{ℕ, _+_}
 use lib.Dec.{eqb}

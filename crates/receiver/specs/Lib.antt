@@ -5,3 +5,4 @@ pub mod Refusal
 pub mod Entry
 pub mod Sound
 pub mod Longest
+pub mod Turn

@@ -1,9 +1,8 @@
 -- What a receiver refuses, and by which number: document 01, "Numbers of refusal". Assumes nothing.
-use mathlib.Core.Bool.{Bool, true, false, not, _&&_, _||_}
+use mathlib.Core.Bool.{Bool, true, not, _&&_, _||_}
 use mathlib.Core.List.{List, [], _∷_}
 use Prim.Native.Nat.{ℕ, _+_, _-_, _*_, _/_, _%_, _^_}
 use lib.Dec.{ltb, leb, eqb}
-use lib.ListN.{length}
 use Rattle.bits.specs.Choice.{pick}
 use Rattle.frame.specs.Modes.{Row, row}
 use Rattle.frame.specs.Lane.{laneOctets}

@@ -2,7 +2,7 @@
 -- A lane is a stream of bits; multiblock m of it is the next to be received. Assumes nothing.
 use mathlib.Core.Bool.{Bool, true, false}
 use mathlib.Core.List.{List, [], _∷_, _++_}
-use Prim.Native.Nat.{ℕ, zero, suc, _*_}
+use Prim.Native.Nat.{ℕ, zero, suc}
 use lib.ListN.{replicate}
 use Rattle.bits.specs.Choice.{pick}
 use Rattle.bits.specs.Order.{bitAt, number}

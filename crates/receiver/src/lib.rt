@@ -3,6 +3,11 @@ pub mod longest;
 
 ghost use mathlib.Core.Path.{_≡_};
 ghost use Rattle.receiver.specs.Release.{fresh};
+ghost use Rattle.receiver.specs.Entry.{done, entry};
+
+mod judge;
+mod refusal;
+mod run;
 
 // What a receiver carries from one call to the next: whether a multiblock waits, its 256 scrambled octets, the history before it, whether
 // that is trusted, and its command.
@@ -40,4 +45,71 @@ impl Receiver {
             command: 0,
         }
     }
+}
+
+// Receives the multiblocks of `lane`. Each released multiblock's octets go to 256 times its number in this call, and its status, command,
+// place and pattern to that number.
+pub fn receive(
+    mode: u8,
+    state: Receiver,
+    lane: &[u8],
+    octets: &mut [u8],
+    statuses: &mut [u8],
+    commands: &mut [u32],
+    places: &mut [u16],
+    patterns: &mut [u16],
+) -> Received
+    ensures { λ r. ⌜ done r (now (octets .exit)) (now (statuses .exit)) (now (commands .exit)) (now (places .exit)) (now (patterns .exit))
+        ≡ entry mode state (now (lane .entry)) (now (octets .entry)) (now (statuses .entry)) (now (commands .entry)) (now (places .entry)) (now (patterns .entry)) ⌝ }
+{
+    let refusal = refusal::refusal_of(
+        mode,
+        state,
+        lane.len(),
+        octets.len(),
+        statuses.len(),
+        commands.len(),
+        places.len(),
+        patterns.len(),
+    );
+    if refusal != 0 {
+        return Received {
+            refusal,
+            count: 0,
+            state,
+        };
+    }
+    let n = lane.len() / 264;
+    if state.waiting {
+        return run::run(
+            mode,
+            state,
+            lane,
+            n,
+            octets,
+            statuses,
+            commands,
+            places,
+            patterns,
+        );
+    }
+    if n == 0 {
+        return Received {
+            refusal: 0,
+            count: 0,
+            state,
+        };
+    }
+    let first = run::begin(mode, lane);
+    run::run(
+        mode,
+        first,
+        &lane[264..],
+        n - 1,
+        octets,
+        statuses,
+        commands,
+        places,
+        patterns,
+    )
 }

@@ -1,0 +1,126 @@
+-- A step goes by what is heard of its multiblock and by nothing else; so a run may be cut at any multiblock, and lanes that read alike release
+-- alike: document 01, "What the receiver releases". Assumes nothing.
+use mathlib.Core.Path.{_≡_, refl, sym, ap, _∙_, fun-ext}
+use mathlib.Core.Bool.{Bool, true, false}
+use mathlib.Core.List.{List, [], _∷_, _++_, append-assoc}
+use Prim.Native.Nat.{ℕ, zero, suc, _+_, _-_, _*_, _<_}
+use native.Mathlib.Nat.{add-zero, add-suc, mul-add}
+use native.Mathlib.Omega.{arith}
+use lib.ListN.{drop}
+use Rattle.bits.specs.Choice.{pick}
+use Rattle.bits.specs.Order.{bitAt, number}
+use Rattle.bits.proofs.Octets.{bit-drop}
+use Rattle.frame.specs.Modes.{Row, row}
+use Rattle.frame.specs.Lane.{laneOctets, dataBit, syncBit, spoiltBit}
+use Rattle.frame.specs.SyncWord.{readParity, markedCommand}
+use Rattle.frame.specs.Scrambling.{descrambled}
+use Rattle.frame.proofs.Lane.{laneFrom, octets-moved, sync-moved, spoilt-moved, same-octets, row-octets}
+use Rattle.receiver.specs.declared.Receiver.{Receiver}
+use Rattle.receiver.specs.declared.run.Heard.{Heard}
+use Rattle.receiver.specs.Judge.{judged, mended, marked, trustedAfter}
+use Rattle.receiver.specs.Release.{Release, Step, verdictAt, mendedAt, releaseAt, waitingAt, step, run}
+use Rattle.receiver.specs.Turn.{heardAt}
+
+-- ---- by what is heard
+
+module _ (R : Row) (s : Receiver) where
+  mendedOn : Heard → List ℕ
+  mendedOn h = mended (judged R (s .octets) (h .parity)) (s .octets)
+
+  releaseOn : Heard → Release
+  releaseOn h = record {
+    octets = descrambled (mendedOn h) (s .history) 256;
+    status = marked (judged R (s .octets) (h .parity)) (s .trusted);
+    command = s .command;
+    place = judged R (s .octets) (h .parity) .place;
+    pattern = judged R (s .octets) (h .parity) .pattern;
+  }
+
+  waitingOn : ℕ → Bool → Heard → Receiver
+  waitingOn history trusted h = record { waiting = true; octets = h .octets; history = history; trusted = trusted; command = h .command }
+
+  stepOn : Heard → Step
+  stepOn h =
+      pick (s .waiting)
+      (record { state = waitingOn (number (bitAt (mendedOn h)) 1990 58) (trustedAfter (judged R (s .octets) (h .parity))) h; out = releaseOn h ∷ [] })
+      (record { state = waitingOn 0 false h; out = [] })
+
+  release-heard : (lane : ℕ → ℕ) (m : ℕ) → releaseAt R lane m s ≡ releaseOn (heardAt R lane m)
+  unfolding releaseAt mendedAt verdictAt heardAt releaseOn mendedOn
+  release-heard lane m = refl
+
+  step-heard : (lane : ℕ → ℕ) (m : ℕ) → step R lane m s ≡ stepOn (heardAt R lane m)
+  unfolding step waitingAt releaseAt mendedAt verdictAt heardAt stepOn releaseOn waitingOn mendedOn
+  step-heard lane m = refl
+
+  module _ (f : ℕ → ℕ) (m : ℕ) (g : ℕ → ℕ) (n : ℕ) (e : heardAt R f m ≡ heardAt R g n) where
+    pub same-release : releaseAt R f m s ≡ releaseAt R g n s
+    same-release = release-heard f m ∙ ap releaseOn e ∙ sym (release-heard g n)
+
+    pub same-step : step R f m s ≡ step R g n s
+    same-step = step-heard f m ∙ ap stepOn e ∙ sym (step-heard g n)
+
+-- what one run released before the next
+abbrev pub then : Step → Step → Step
+then a b = record { state = b .state; out = a .out ++ b .out }
+
+-- ---- lanes that read alike
+
+pub same-run : (R : Row) (f g : ℕ → ℕ) (s : Receiver) (n : ℕ) → ((m : ℕ) → m < n → heardAt R f m ≡ heardAt R g m) → run R f s n ≡ run R g s n
+unfolding run
+same-run R f g s zero e = refl
+same-run R f g s (suc n) e =
+    ap (λ (x : Step). then x (step R f n (x .state))) (same-run R f g s n (λ m h. e m (omega arith)))
+    ∙ ap (then (run R g s n)) (same-step R (run R g s n .state) f n g n (e n (omega arith)))
+
+-- a wrong end mark or wrong fixed bits change nothing: only data bits, and what the parity's and the command's headers read
+pub same-reading : (R : Row) (f g : ℕ → ℕ) (s : Receiver) (n : ℕ)
+    → ((m q : ℕ) → m < n → q < 2048 → dataBit (R .gap) f m q ≡ dataBit (R .gap) g m q)
+    → ((m : ℕ) → m < n → readParity R (syncBit (R .gap) f m) ≡ readParity R (syncBit (R .gap) g m))
+    → ((m : ℕ) → m < n → markedCommand R (syncBit (R .gap) f m) (spoiltBit (R .gap) f m) ≡ markedCommand R (syncBit (R .gap) g m) (spoiltBit (R .gap) g m))
+    → run R f s n ≡ run R g s n
+same-reading R f g s n same-data same-parity same-command = same-run R f g s n alike
+  where
+    alike : (m : ℕ) → m < n → heardAt R f m ≡ heardAt R g m
+    alike m h = unfold heardAt in rw (same-octets (R .gap) f g m (λ q l. same-data m q h l), same-parity m h, same-command m h)
+
+-- ---- a run cut in two
+
+heard-moved : (R : Row) (lane : ℕ → ℕ) (m : ℕ) → heardAt R lane m ≡ heardAt R (laneFrom (R .gap) lane m) 0
+unfolding heardAt
+heard-moved R lane m =
+    let g = R .gap in
+    let sync : syncBit g lane m ≡ syncBit g (laneFrom g lane m) 0 = fun-ext (sync-moved g lane m) in
+    let bad : spoiltBit g lane m ≡ spoiltBit g (laneFrom g lane m) 0 = fun-ext (spoilt-moved g lane m) in
+    rw (octets-moved g lane m, sync, bad)
+
+nil : (l : List Release) → l ++ [] ≡ l
+nil [] = refl
+nil (x ∷ l) = ap (λ (k : List Release). x ∷ k) (nil l)
+
+module _ (R : Row) (lane : ℕ → ℕ) where
+  pub heard-from : (a b : ℕ) → heardAt R lane (a + b) ≡ heardAt R (laneFrom (R .gap) lane a) b
+  heard-from a b =
+      let g = R .gap in
+      heard-moved R lane (a + b)
+      ∙ ap (λ (f : ℕ → ℕ). heardAt R f 0) (fun-ext (λ x. ap lane (omega (arith, mul-add (8 * laneOctets g) a b))))
+      ∙ sym (heard-moved R (laneFrom g lane a) b)
+
+  -- the first a multiblocks, and then b more from the state they left
+  pub run-cut : (s : Receiver) (a b : ℕ) → run R lane s (a + b) ≡ then (run R lane s a) (run R (laneFrom (R .gap) lane a) (run R lane s a .state) b)
+  unfolding run
+  run-cut s a zero = ap (run R lane s) (add-zero a) ∙ ap (λ (l : List Release). record { state = run R lane s a .state; out = l }) (sym (nil (run R lane s a .out)))
+  run-cut s a (suc b) =
+      let was = run R lane s a in
+      let rest = laneFrom (R .gap) lane a in
+      let more = run R rest (was .state) b in
+      ap (run R lane s) (add-suc a b)
+      ∙ ap (λ (x : Step). then x (step R lane (a + b) (x .state))) (run-cut s a b)
+      ∙ ap (then (then was more)) (same-step R (more .state) lane (a + b) rest b (heard-from a b))
+      ∙ ap (λ (l : List Release). record { state = step R rest b (more .state) .state; out = l }) (append-assoc (was .out) (more .out) (step R rest b (more .state) .out))
+
+-- ---- a lane of octets, from a multiblock on
+
+pub bits-from : (mode : ℕ) (lane : List ℕ) (k : ℕ) → bitAt (drop (264 * k) lane) ≡ laneFrom (row mode .gap) (bitAt lane) k
+bits-from mode lane k =
+    fun-ext (λ x. bit-drop (264 * k) lane x ∙ ap (bitAt lane) (omega (arith, ap (λ (y : ℕ). 8 * y * k + x) (row-octets mode))))

@@ -1,0 +1,159 @@
+-- One turn of a run after another: the state, and every buffer as the releases so far lie in it. Document 01, "What the receiver releases".
+-- Assumes nothing.
+use mathlib.Core.Path.{_≡_, refl, sym, ap, _∙_}
+use mathlib.Core.Bool.{Bool, true}
+use mathlib.Core.List.{List, [], _∷_, _++_}
+use Prim.Native.Nat.{ℕ, _+_, _-_, _*_, _≤_, _<_}
+use native.Mathlib.Omega.{arith}
+use lib.ListN.{length, take, drop, set, length-set, length-drop}
+use lib.Seq.{take-all}
+use borrow.Rule.Slice.PartMut.{putMid, midOf, same-len-mid}
+use Rattle.bits.specs.Order.{bitAt, number, laid}
+use Rattle.frame.specs.Modes.{Row, row}
+use Rattle.frame.specs.Parts.{refusalOf, written}
+use Rattle.frame.specs.Scrambling.{descrambled}
+use Rattle.frame.proofs.Parts.{not-refused, answered}
+use Rattle.receiver.specs.declared.Verdict.{Verdict}
+use Rattle.receiver.specs.declared.Receiver.{Receiver}
+use Rattle.receiver.specs.declared.run.Heard.{Heard}
+use Rattle.receiver.specs.Judge.{judged, mended, marked, trustedAfter}
+use Rattle.receiver.specs.Release.{Release, Step, verdictAt, mendedAt, releaseAt, waitingAt, step, run}
+use Rattle.receiver.specs.Entry.{octetsOut, listed, done, laidOut}
+use Rattle.receiver.specs.Turn.{heardAt, Room, Turned}
+use Rattle.receiver.proofs.Buffers.{laid-one, laid-part, listed-more, listed-length, octets-more, release-length, octets-length}
+use Rattle.receiver.proofs.Counts.{run-more, run-waits, all-counted}
+use Rattle.receiver.proofs.Cut.{same-step, same-release, heard-from, bits-from}
+use Rattle.receiver.proofs.Mending.{mended-length}
+
+-- ---- one turn
+
+-- what the code of a turn computes, put together
+pub turned : (mode : ℕ) (s : Receiver) (lane : List ℕ) (k : ℕ) (o st c p q o′ : List ℕ) (heard : Heard) (v : Verdict) (whole : List ℕ) (refusal mark history : ℕ) (trusted : Bool)
+    → s .waiting ≡ true
+    → 256 ≤ length o
+    → heard ≡ heardAt (row mode) (bitAt lane) 0
+    → v ≡ judged (row mode) (s .octets) (heard .parity)
+    → whole ≡ mended v (s .octets)
+    → refusal ≡ refusalOf 256 whole 256 o
+    → o′ ≡ written refusal (descrambled whole (s .history) 256) o
+    → mark ≡ marked v (s .trusted)
+    → history ≡ number (bitAt whole) 1990 58
+    → trusted ≡ trustedAfter v
+    → Turned (step (row mode) (bitAt lane) 0 s .state) (releaseAt (row mode) (bitAt lane) 0 s) k
+    (record { waiting = true; octets = heard .octets; history = history; trusted = trusted; command = heard .command })
+    o st c p q o′ (set st k mark) (set c k (s .command)) (set p k (v .place)) (set q k (v .pattern))
+unfolding step waitingAt releaseAt mendedAt verdictAt heardAt
+turned mode s lane k o st c p q o′ heard v whole refusal mark history trusted w room eh ev ew er eo em ey et =
+    let R = row mode in
+    let own : v ≡ verdictAt R (bitAt lane) 0 s = ev ∙ ap (λ (h : Heard). judged R (s .octets) (h .parity)) eh in
+    let all : whole ≡ mendedAt R (bitAt lane) 0 s = ew ∙ ap (λ (x : Verdict). mended x (s .octets)) own in
+    let none : refusal ≡ 0 = er ∙ not-refused 256 whole 256 o (omega (arith, ap length ew, mended-length v (s .octets))) room in
+    record {
+      state = rw (w, eh, ey, et, all, own);
+      octets = eo ∙ answered refusal (descrambled whole (s .history) 256) o none ∙ rw all;
+      statuses = rw (em, own);
+      commands = refl;
+      places = rw own;
+      patterns = rw own;
+    }
+
+-- a part to the end is what is left
+pub rest-of : (lane : List ℕ) (a : ℕ) → take (length lane - a) (drop a lane) ≡ drop a lane
+rest-of lane a = take-all (length lane - a) (drop a lane) (simp length-drop (omega arith))
+
+-- ---- after k turns
+
+pub record Held (R : Row) (lane : ℕ → ℕ) (start : Receiver) (k : ℕ) (s : Receiver) (o₀ st₀ c₀ p₀ q₀ o st c p q : List ℕ) : Type 0 where
+  pub state : s ≡ run R lane start k .state
+  pub octets : o ≡ laid (octetsOut (run R lane start k .out)) o₀
+  pub statuses : st ≡ laid (listed (λ (r : Release). r .status) (run R lane start k .out)) st₀
+  pub commands : c ≡ laid (listed (λ (r : Release). r .command) (run R lane start k .out)) c₀
+  pub places : p ≡ laid (listed (λ (r : Release). r .place) (run R lane start k .out)) p₀
+  pub patterns : q ≡ laid (listed (λ (r : Release). r .pattern) (run R lane start k .out)) q₀
+  pub octets-long : length o ≡ length o₀
+  pub statuses-long : length st ≡ length st₀
+  pub commands-long : length c ≡ length c₀
+  pub places-long : length p ≡ length p₀
+  pub patterns-long : length q ≡ length q₀
+
+pub held-none : (R : Row) (lane : ℕ → ℕ) (start : Receiver) (o st c p q : List ℕ) → Held R lane start 0 start o st c p q o st c p q
+unfolding run laid octetsOut listed
+held-none R lane start o st c p q = record {
+  state = refl;
+  octets = refl;
+  statuses = refl;
+  commands = refl;
+  places = refl;
+  patterns = refl;
+  octets-long = refl;
+  statuses-long = refl;
+  commands-long = refl;
+  places-long = refl;
+  patterns-long = refl;
+}
+
+-- one list
+list-more : (f : Release → ℕ) (out : List Release) (r : Release) (k : ℕ) (old was now : List ℕ) → length out ≡ k → k < length old → was ≡ laid (listed f out) old → now ≡ set was k (f r)
+    → now ≡ laid (listed f (out ++ (r ∷ []))) old
+list-more f out r k old was now l h e e′ =
+    e′ ∙ ap (λ (x : List ℕ). set x k (f r)) e ∙ laid-one (listed f out) old k (f r) (listed-length f out ∙ l) h
+    ∙ ap (λ (x : List ℕ). laid x old) (sym (listed-more f out r))
+
+module _ (mode : ℕ) (lane : List ℕ) (start : Receiver) (k n : ℕ) (s : Receiver) (o₀ st₀ c₀ p₀ q₀ o st c p q : List ℕ) (w : start .waiting ≡ true) (less : k < n)
+    (room : Room n (length o₀) (length st₀) (length c₀) (length p₀) (length q₀)) (h : Held (row mode) (bitAt lane) start k s o₀ st₀ c₀ p₀ q₀ o st c p q) where
+  pub still-waits : s .waiting ≡ true
+  still-waits = ap (λ (x : Receiver). x .waiting) (h .state) ∙ run-waits (row mode) (bitAt lane) start k w
+
+  pub held-more : (rest : List ℕ) (r : Receiver) (part st′ c′ p′ q′ : List ℕ) → rest ≡ drop (264 * k) lane → length part ≡ length (midOf (256 * k) (length o - 256 * k) o)
+      → Turned (step (row mode) (bitAt rest) 0 s .state) (releaseAt (row mode) (bitAt rest) 0 s) k r (midOf (256 * k) (length o - 256 * k) o) st c p q part st′ c′ p′ q′
+      → Held (row mode) (bitAt lane) start (k + 1) r o₀ st₀ c₀ p₀ q₀ (putMid (256 * k) (length o - 256 * k) o part) st′ c′ p′ q′
+  held-more rest r part st′ c′ p′ q′ er lp t =
+      let R = row mode in
+      let f = bitAt lane in
+      let was = run R f start k in
+      let out = releaseAt R f k (was .state) in
+      let heard : heardAt R (bitAt rest) 0 ≡ heardAt R f k =
+      ap (λ (x : List ℕ). heardAt R (bitAt x) 0) er ∙ ap (λ (g : ℕ → ℕ). heardAt R g 0) (bits-from mode lane k) ∙ sym (heard-from R f k 0) ∙ ap (heardAt R f) (omega arith) in
+      let is : releaseAt R (bitAt rest) 0 s ≡ out = ap (releaseAt R (bitAt rest) 0) (h .state) ∙ same-release R (was .state) (bitAt rest) 0 f k heard in
+      let next : step R (bitAt rest) 0 s ≡ step R f k (was .state) = ap (step R (bitAt rest) 0) (h .state) ∙ same-step R (was .state) (bitAt rest) 0 f k heard in
+      let more = run-more R f start k w in
+      let outs : was .out ++ (out ∷ []) ≡ run R f start (k + 1) .out = sym (ap (λ (x : Step). x .out) more) in
+      let l : length (was .out) ≡ k = all-counted R f start k w in
+      record {
+        state = t .state ∙ ap (λ (x : Step). x .state) next ∙ sym (ap (λ (x : Step). x .state) more);
+        octets =
+            laid-part (octetsOut (was .out)) (out .octets) o₀ o part (256 * k) (octets-length R f start k w) (h .octets) (h .octets-long)
+            (omega (arith, room .octets-fit, release-length R f k (was .state)))
+            (t .octets ∙ ap (λ (x : Release). laid (x .octets) (midOf (256 * k) (length o - 256 * k) o)) is)
+            ∙ ap (λ (x : List ℕ). laid x o₀) (sym (octets-more (was .out) out))
+            ∙ ap (λ (x : List Release). laid (octetsOut x) o₀) outs;
+        statuses =
+            list-more (λ (x : Release). x .status) (was .out) out k st₀ st st′ l (omega (arith, room .statuses-fit)) (h .statuses) (t .statuses ∙ ap (λ (x : Release). set st k (x .status)) is)
+            ∙ ap (λ (x : List Release). laid (listed (λ (y : Release). y .status) x) st₀) outs;
+        commands =
+            list-more (λ (x : Release). x .command) (was .out) out k c₀ c c′ l (omega (arith, room .commands-fit)) (h .commands) (t .commands ∙ ap (λ (x : Release). set c k (x .command)) is)
+            ∙ ap (λ (x : List Release). laid (listed (λ (y : Release). y .command) x) c₀) outs;
+        places =
+            list-more (λ (x : Release). x .place) (was .out) out k p₀ p p′ l (omega (arith, room .places-fit)) (h .places) (t .places ∙ ap (λ (x : Release). set p k (x .place)) is)
+            ∙ ap (λ (x : List Release). laid (listed (λ (y : Release). y .place) x) p₀) outs;
+        patterns =
+            list-more (λ (x : Release). x .pattern) (was .out) out k q₀ q q′ l (omega (arith, room .patterns-fit)) (h .patterns) (t .patterns ∙ ap (λ (x : Release). set q k (x .pattern)) is)
+            ∙ ap (λ (x : List Release). laid (listed (λ (y : Release). y .pattern) x) q₀) outs;
+        octets-long = same-len-mid (256 * k) (length o - 256 * k) o part lp ∙ h .octets-long;
+        statuses-long = ap length (t .statuses) ∙ length-set st k _ ∙ h .statuses-long;
+        commands-long = ap length (t .commands) ∙ length-set c k _ ∙ h .commands-long;
+        places-long = ap length (t .places) ∙ length-set p k _ ∙ h .places-long;
+        patterns-long = ap length (t .patterns) ∙ length-set q k _ ∙ h .patterns-long;
+      }
+
+-- all turns
+pub held-all : (R : Row) (lane : ℕ → ℕ) (start : Receiver) (k n : ℕ) (s : Receiver) (o₀ st₀ c₀ p₀ q₀ o st c p q : List ℕ) → start .waiting ≡ true → k ≡ n
+    → Held R lane start k s o₀ st₀ c₀ p₀ q₀ o st c p q → done (record { refusal = 0; count = n; state = s }) o st c p q ≡ laidOut (run R lane start n) o₀ st₀ c₀ p₀ q₀
+held-all R lane start k n s o₀ st₀ c₀ p₀ q₀ o st c p q w e h =
+    rw (h .state, h .octets, h .statuses, h .commands, h .places, h .patterns, ← e)
+    (ap (λ (j : ℕ). done (record { refusal = 0; count = j; state = run R lane start k .state })
+    (laid (octetsOut (run R lane start k .out)) o₀)
+    (laid (listed (λ (r : Release). r .status) (run R lane start k .out)) st₀)
+    (laid (listed (λ (r : Release). r .command) (run R lane start k .out)) c₀)
+    (laid (listed (λ (r : Release). r .place) (run R lane start k .out)) p₀)
+    (laid (listed (λ (r : Release). r .pattern) (run R lane start k .out)) q₀)) (sym (all-counted R lane start k w)))

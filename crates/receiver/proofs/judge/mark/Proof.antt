@@ -1,0 +1,22 @@
+-- `receiver::judge::mark` meets its contract.
+-- Assumes nothing.
+use borrow.Author.Needs.{needs}
+use Prim.Native.Nat.{_-_}
+use Rattle.receiver.specs.Judge.{marked}
+use native.Mathlib.Nat.{add-zero}
+use Rattle.receiver.proofs.judge.mark.Statement.{statement}
+use Rattle.receiver.proofs.judge.mark.Tie as tie
+
+returns : tie.Need-returns
+unfolding marked
+returns c = simp (c .if1 .taken, add-zero)
+
+add-result : tie.Need-add-result
+add-result c = search needs
+
+returns-2 : tie.Need-returns-2
+unfolding marked
+returns-2 c = simp (c .before .if1 .left)
+
+pub mark-spec : {M : Type 1} → statement M
+mark-spec = tie.close (tie.spec returns add-result returns-2)

@@ -1,0 +1,36 @@
+-- `receiver::refusal::as_fresh` meets its contract.
+-- Assumes nothing.
+use borrow.Author.Needs.{needs}
+use Prim.Native.Nat.{_-_}
+use borrow.Author.Tests.{eq-eqb, ne-eqb}
+use Rattle.receiver.specs.Turn.{asFresh}
+use Rattle.receiver.proofs.Refusals.{all-fresh}
+use Rattle.receiver.proofs.refusal.as_fresh.Statement.{statement}
+use Rattle.receiver.proofs.refusal.as_fresh.Tie as tie
+
+returns : tie.Need-returns
+unfolding asFresh
+returns c = simp (ne-eqb _ _ (c .if1 .taken))
+
+returns-2 : tie.Need-returns-2
+unfolding asFresh
+returns-2 c = simp (eq-eqb _ _ (c .before .before .if1 .left), ne-eqb _ _ (c .if2 .taken))
+
+returns-3 : tie.Need-returns-3
+unfolding asFresh
+returns-3 c = simp (eq-eqb _ _ (c .before .before .before .if1 .left), eq-eqb _ _ (c .before .if2 .left), c .if3 .taken)
+
+slice-aggregate-all-zero : tie.Need-slice-aggregate-all-zero
+slice-aggregate-all-zero c = search needs
+
+all-zero-requires : tie.Need-all-zero-requires
+all-zero-requires c κs = search needs
+
+returns-4 : tie.Need-returns-4
+unfolding asFresh
+returns-4 c = all-fresh (c .before .before .before .before .before .before .before .before .args .state) (c .all-zero .result) (c .before .before .before .before .before .before .if1 .left) (c .before .before .before .before .if2 .left) (c .before .before .before .if3 .left) (c .all-zero .ensures)
+
+pub as-fresh-spec : {M : Type 1} → statement M
+as-fresh-spec =
+    tie.close
+    (tie.spec returns returns-2 returns-3 slice-aggregate-all-zero all-zero-requires returns-4)

@@ -1,0 +1,120 @@
+-- `receiver::run::run` meets its contract.
+-- Assumes nothing.
+use borrow.Author.Needs.{needs}
+use Prim.Native.Nat.{_-_, _*_, _≤_}
+use mathlib.Core.Path.{ap, _∙_}
+use native.Mathlib.Omega.{arith}
+use lib.ListN.{length, length-drop}
+use Rattle.bits.specs.Order.{bitAt}
+use Rattle.frame.specs.Modes.{row}
+use Rattle.receiver.proofs.Turns.{Held, held-none, rest-of, still-waits, held-more, held-all}
+use denote.Ref.{now}
+use Rattle.receiver.proofs.run.run.Statement.{statement}
+use Rattle.receiver.proofs.run.run.Tie as tie
+
+abbrev Inv-loop : tie.InvT-loop
+Inv-loop mode lane n octets₀ statuses₀ commands₀ places₀ patterns₀ state₀ k₀ octets statuses commands places patterns state k = (k ≤ n) × Held (row mode) (bitAt lane) state₀ k state octets₀ statuses₀ commands₀ places₀ patterns₀ octets statuses commands places patterns
+
+abbrev μ-loop : tie.MeasureT-loop
+μ-loop mode lane n octets₀ statuses₀ commands₀ places₀ patterns₀ state₀ k₀ octets statuses commands places patterns state k = n - k
+
+loop-holds : tie.Need-loop-holds Inv-loop μ-loop
+loop-holds c = (search needs, held-none _ _ _ _ _ _ _ _)
+
+mul-release : tie.Need-mul-release Inv-loop μ-loop
+mul-release c = search needs
+
+sub-release : tie.Need-sub-release Inv-loop μ-loop
+sub-release c = search needs
+
+part-release-start : tie.Need-part-release-start Inv-loop μ-loop
+part-release-start c = search needs
+
+part-release-end : tie.Need-part-release-end Inv-loop μ-loop
+part-release-end c = search needs
+
+mul-release-2 : tie.Need-mul-release-2 Inv-loop μ-loop
+mul-release-2 c = search needs
+
+sub-release-2 : tie.Need-sub-release-2 Inv-loop μ-loop
+sub-release-2 c = search needs
+
+part-release-start-2 : tie.Need-part-release-start-2 Inv-loop μ-loop
+part-release-start-2 c = search needs
+
+part-release-end-2 : tie.Need-part-release-end-2 Inv-loop μ-loop
+part-release-end-2 c = search needs
+
+release-requires : tie.Need-release-requires Inv-loop μ-loop
+release-requires c κs =
+    let a = c .before .before .before .before .before .before .before .before .before .before .before .before .before .before .args in
+    let pre = c .before .before .before .before .before .before .before .before .before .before .before .before .before .before .pre in
+    let l = c .before .before .before .before .before .before .before .loop in
+    let h = l .inv .1 in
+    let room = pre .1 in
+    let long = ap length (rest-of (now (a .lane)) (264 * l .k)) ∙ length-drop (264 * l .k) (now (a .lane)) in
+    let part = ap length (rest-of (l .octets) (256 * l .k)) ∙ length-drop (256 * l .k) (l .octets) in
+    let less = c .before .before .before .before .before .before .loop-test .taken in
+    ((still-waits (a .mode) (now (a .lane)) (a .start) (l .k) (a .n) (l .state) (now (a .octets)) (now (a .statuses)) (now (a .commands)) (now (a .places)) (now (a .patterns)) (l .octets) (l .statuses) (l .commands) (l .places) (l .patterns) (pre .0 .0) less room h, omega (arith, long, less, pre .0 .1), omega (arith, part, less, room .octets-fit, h .octets-long)), (omega (arith, less, pre .0 .2), omega (arith, less, room .statuses-fit, h .statuses-long), omega (arith, less, room .commands-fit, h .commands-long), omega (arith, less, room .places-fit, h .places-long), omega (arith, less, room .patterns-fit, h .patterns-long)))
+
+add-k : tie.Need-add-k Inv-loop μ-loop
+add-k c = search needs
+
+loop-less : tie.Need-loop-less Inv-loop μ-loop
+loop-less c = search needs
+
+loop-again : tie.Need-loop-again Inv-loop μ-loop
+loop-again c =
+    let a = c .before .before .before .before .before .before .before .before .before .before .before .before .before .before .before .before .before .before .before .before .before .before .before .before .before .args in
+    let pre = c .before .before .before .before .before .before .before .before .before .before .before .before .before .before .before .before .before .before .before .before .before .before .before .before .before .pre in
+    let l = c .before .before .before .before .before .before .before .before .before .before .before .before .before .before .before .before .before .before .loop in
+    let less = c .before .before .before .before .before .before .before .before .before .before .before .before .before .before .before .before .before .loop-test .taken in
+    let r = c .before .before .before .before .before .before .before .before .before .before .release in
+    (omega (arith, less), held-more (a .mode) (now (a .lane)) (a .start) (l .k) (a .n) (l .state) (now (a .octets)) (now (a .statuses)) (now (a .commands)) (now (a .places)) (now (a .patterns)) (l .octets) (l .statuses) (l .commands) (l .places) (l .patterns) (pre .0 .0) less (pre .1) (l .inv .1) _ (r .result) _ _ _ _ _ (rest-of (now (a .lane)) (264 * l .k)) (r .kept .1 .1 .1 .1 .0) (r .ensures))
+
+same-length : tie.Need-same-length Inv-loop μ-loop
+same-length c = search needs
+
+same-length-2 : tie.Need-same-length-2 Inv-loop μ-loop
+same-length-2 c = search needs
+
+same-length-3 : tie.Need-same-length-3 Inv-loop μ-loop
+same-length-3 c = search needs
+
+same-length-4 : tie.Need-same-length-4 Inv-loop μ-loop
+same-length-4 c = search needs
+
+same-length-5 : tie.Need-same-length-5 Inv-loop μ-loop
+same-length-5 c = search needs
+
+returns : tie.Need-returns Inv-loop μ-loop
+returns c =
+    let a = c .before .before .before .before .before .before .before .before .args in
+    let l = c .before .loop in
+    held-all (row (a .mode)) (bitAt (now (a .lane))) (a .start) (l .k) (a .n) (l .state) _ _ _ _ _ _ _ _ _ _ (c .before .before .before .before .before .before .before .before .pre .0 .0) (omega (arith, c .loop-test .left, l .inv .0)) (l .inv .1)
+
+pub run-spec : {M : Type 1} → statement M
+run-spec =
+    tie.close
+    (tie.spec
+    Inv-loop
+    μ-loop
+    loop-holds
+    mul-release
+    sub-release
+    part-release-start
+    part-release-end
+    mul-release-2
+    sub-release-2
+    part-release-start-2
+    part-release-end-2
+    release-requires
+    add-k
+    loop-less
+    loop-again
+    same-length
+    same-length-2
+    same-length-3
+    same-length-4
+    same-length-5
+    returns)

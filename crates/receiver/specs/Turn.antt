@@ -1,0 +1,48 @@
+-- What the functions behind the receiver's entry promise to each other. No public promise cites it. Assumes nothing.
+use mathlib.Core.Path.{_≡_}
+use mathlib.Core.Bool.{Bool, not, _&&_}
+use mathlib.Core.List.{List}
+use Prim.Native.Nat.{ℕ, _*_, _≤_}
+use lib.Dec.{leb, eqb}
+use lib.ListN.{set}
+use Rattle.bits.specs.Order.{laid}
+use Rattle.frame.specs.Modes.{Row}
+use Rattle.frame.specs.Lane.{dataOctets, syncBit, spoiltBit}
+use Rattle.frame.specs.SyncWord.{readParity, markedCommand}
+use Rattle.receiver.specs.declared.Receiver.{Receiver}
+use Rattle.receiver.specs.declared.run.Heard.{Heard}
+use Rattle.receiver.specs.Release.{Release}
+use Rattle.receiver.specs.Refusal.{allZero}
+
+-- all that is heard of multiblock m
+unfoldable pub heardAt : Row → (ℕ → ℕ) → ℕ → Heard
+heardAt R lane m = record {
+  octets = dataOctets (R .gap) lane m;
+  parity = readParity R (syncBit (R .gap) lane m);
+  command = markedCommand R (syncBit (R .gap) lane m) (spoiltBit (R .gap) lane m);
+}
+
+-- the two last tests of a state and of the lengths
+unfoldable pub asFresh : Receiver → Bool
+asFresh s = (eqb (s .history) 0 && eqb (s .command) 0) && (not (s .trusted) && allZero (s .octets))
+
+unfoldable pub roomFor : ℕ → ℕ → ℕ → ℕ → ℕ → ℕ → Bool
+roomFor k octets statuses commands places patterns =
+    leb (256 * k) octets && (leb k statuses && (leb k commands && (leb k places && leb k patterns)))
+
+-- buffers of these lengths hold what k releases write
+pub record Room (k octets statuses commands places patterns : ℕ) : Type 0 where
+  pub octets-fit : 256 * k ≤ octets
+  pub statuses-fit : k ≤ statuses
+  pub commands-fit : k ≤ commands
+  pub places-fit : k ≤ places
+  pub patterns-fit : k ≤ patterns
+
+-- one release: its octets at the start of the part lent, and place k of each list
+pub record Turned (next : Receiver) (out : Release) (k : ℕ) (r : Receiver) (o s c p q o′ s′ c′ p′ q′ : List ℕ) : Type 0 where
+  pub state : r ≡ next
+  pub octets : o′ ≡ laid (out .octets) o
+  pub statuses : s′ ≡ set s k (out .status)
+  pub commands : c′ ≡ set c k (out .command)
+  pub places : p′ ≡ set p k (out .place)
+  pub patterns : q′ ≡ set q k (out .pattern)

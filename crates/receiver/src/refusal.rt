@@ -1,0 +1,133 @@
+// What is refused, lowest number first: document 01, "Numbers of refusal".
+ghost use mathlib.Core.Path.{_≡_};
+ghost use Prim.Native.Nat.{_≤_};
+ghost use Rattle.frame.specs.Modes.{row};
+ghost use Rattle.receiver.specs.Refusal.{commandBound, allZero, stateFits, releases, refusalOf};
+ghost use Rattle.receiver.specs.Turn.{asFresh, roomFor};
+use crate::Receiver;
+
+fn all_zero(octets: &[u8]) -> bool
+    ensures { λ r. ⌜ r ≡ allZero (now (octets .entry)) ⌝ }
+{
+    for i in 0..octets.len() {
+        if octets[i] != 0 {
+            return false;
+        }
+    }
+    true
+}
+
+// Whether all but the waiting flag is as in a fresh state.
+fn as_fresh(state: Receiver) -> bool
+    ensures { λ r. ⌜ r ≡ asFresh state ⌝ }
+{
+    if state.history != 0 {
+        return false;
+    }
+    if state.command != 0 {
+        return false;
+    }
+    if state.trusted {
+        return false;
+    }
+    let octets = state.octets;
+    all_zero(&octets[..])
+}
+
+// Seven bits and a mark in mode 0, and no command in FEC mode.
+fn command_bound(mode: u8) -> u32
+    ensures { λ r. ⌜ r ≡ commandBound (row mode) ⌝ }
+{
+    if mode == 1 { 1 } else { 256 }
+}
+
+fn state_fits(mode: u8, state: Receiver) -> bool
+    ensures { λ r. ⌜ r ≡ stateFits (row mode) state ⌝ }
+{
+    if state.history >= 0x400_0000_0000_0000 {
+        return false;
+    }
+    if state.command >= command_bound(mode) {
+        return false;
+    }
+    if state.waiting {
+        return true;
+    }
+    as_fresh(state)
+}
+
+// How many are released when n are received.
+fn releases(waiting: bool, n: usize) -> usize
+    ensures { λ r. ⌜ r ≡ releases waiting n ⌝ }
+{
+    if waiting {
+        return n;
+    }
+    if n == 0 {
+        return 0;
+    }
+    n - 1
+}
+
+// Whether buffers of these lengths hold what k releases write.
+fn room_for(
+    k: usize,
+    octets: usize,
+    statuses: usize,
+    commands: usize,
+    places: usize,
+    patterns: usize,
+) -> bool
+    requires { ⌜ k ≤ 240 ⌝ }
+    ensures { λ r. ⌜ r ≡ roomFor k octets statuses commands places patterns ⌝ }
+{
+    if 256 * k > octets {
+        return false;
+    }
+    if k > statuses {
+        return false;
+    }
+    if k > commands {
+        return false;
+    }
+    if k > places {
+        return false;
+    }
+    if k > patterns {
+        return false;
+    }
+    true
+}
+
+// The lowest number that applies, or 0, by the state and the lengths of the lane and of the lent buffers.
+pub(crate) fn refusal_of(
+    mode: u8,
+    state: Receiver,
+    lane: usize,
+    octets: usize,
+    statuses: usize,
+    commands: usize,
+    places: usize,
+    patterns: usize,
+) -> u8
+    ensures { λ r. ⌜ r ≡ refusalOf mode state lane octets statuses commands places patterns ⌝ }
+{
+    if mode > 1 {
+        return 1;
+    }
+    if !state_fits(mode, state) {
+        return 3;
+    }
+    if lane % 264 != 0 {
+        return 4;
+    }
+    let n = lane / 264;
+    if n > 240 {
+        return 5;
+    }
+    let k = releases(state.waiting, n);
+    if !room_for(k, octets, statuses, commands, places, patterns) {
+        return 7;
+    }
+    0
+}
