@@ -12,9 +12,10 @@ const POSITIONS: usize = 2074;
 const AT_MOST_9_BITS: Range<u32> = 1..512;
 const EXACTLY_10_BITS: Range<u32> = 513..1024;
 
-struct Burst {
-    place: usize,
-    pattern: u32,
+#[derive(Clone, Copy, Debug, PartialEq)]
+pub struct Burst {
+    pub place: usize,
+    pub pattern: u32,
 }
 
 /// The remainder of each position's weight, a long division for each.
@@ -24,7 +25,7 @@ fn position_remainders() -> Vec<u32> {
 }
 
 impl Burst {
-    fn positions(&self) -> Vec<usize> {
+    pub fn positions(&self) -> Vec<usize> {
         let set = (0..10).filter(|j| self.pattern >> j & 1 == 1);
         set.map(|j| self.place + j).collect()
     }
@@ -44,6 +45,12 @@ fn bursts(patterns: Range<u32>) -> Vec<Burst> {
 /// The remainder of a set of positions: the sum modulo 2 of theirs.
 fn sum(positions: &[usize], remainders: &[u32]) -> u32 {
     positions.iter().fold(0, |sum, position| sum ^ remainders[*position])
+}
+
+/// Every burst of at most 9 bits by its remainder.
+pub fn by_remainder() -> HashMap<u32, Burst> {
+    let remainders = position_remainders();
+    bursts(AT_MOST_9_BITS).into_iter().map(|burst| (sum(&burst.positions(), &remainders), burst)).collect()
 }
 
 fn yes_or_no(answer: bool) -> &'static str {
@@ -66,10 +73,8 @@ fn flips_line(found: Option<&Burst>) -> String {
 
 pub fn lines() -> Vec<String> {
     let remainders = position_remainders();
-    let short = bursts(AT_MOST_9_BITS);
-    let short_count = short.len();
-    let by_remainder: HashMap<u32, Burst> =
-        short.into_iter().map(|burst| (sum(&burst.positions(), &remainders), burst)).collect();
+    let short_count = bursts(AT_MOST_9_BITS).len();
+    let by_remainder = by_remainder();
     let long = bursts(EXACTLY_10_BITS);
     let mistaken = long.iter().filter(|burst| by_remainder.contains_key(&sum(&burst.positions(), &remainders))).count();
     let flips = by_remainder.get(&sum(&[0, 10], &remainders));

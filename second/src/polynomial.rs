@@ -1,6 +1,8 @@
 //! Polynomials whose coefficients are bits, with sums modulo 2: the arithmetic that clauses 7.4.2 and 7.5.2
 //! speak in. Entry k of the vector is the coefficient of x^k.
 
+use crate::bits;
+
 #[derive(Clone)]
 pub struct Polynomial(Vec<bool>);
 
@@ -12,15 +14,14 @@ impl Polynomial {
         Polynomial(coefficients)
     }
 
+    /// The first bit has the highest power.
+    pub fn of_bits(bits: &[bool]) -> Polynomial {
+        Polynomial(bits.iter().rev().copied().collect())
+    }
+
     /// The bits of the octets, most significant first; the first bit has the highest power.
     pub fn of_octets(octets: &[u8]) -> Polynomial {
-        let mut coefficients = Vec::new();
-        for octet in octets.iter().rev() {
-            for bit in 0..8 {
-                coefficients.push(octet >> bit & 1 == 1);
-            }
-        }
-        Polynomial(coefficients)
+        Polynomial::of_bits(&bits::of_octets(octets))
     }
 
     /// Bit k of the number is the coefficient of x^k.

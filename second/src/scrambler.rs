@@ -1,34 +1,23 @@
 //! The scrambler of clause 7.2.4.2, bit by bit: each bit sent is the user's bit plus the bits sent 39 and 58 earlier,
 //! modulo 2. What was sent is kept whole, from the 58 bits before the first block on.
 
+use crate::bits;
+
+pub const HISTORY_BITS: usize = 58;
+const NEAR: usize = 39;
+
+/// Initial state 0x01 of Table 37: of the 58 bits sent before, only the earliest is 1.
+pub const INITIAL_ONE: u64 = 1 << (HISTORY_BITS - 1);
+
 pub struct Scrambler {
     /// All bits sent, the earliest first.
     sent: Vec<bool>,
 }
 
-/// The bits of octets, the most significant of each first.
-fn bits(octets: &[u8]) -> Vec<bool> {
-    let bits_of = |octet: &u8| format!("{octet:08b}").chars().map(|digit| digit == '1').collect::<Vec<bool>>();
-    octets.iter().flat_map(bits_of).collect()
-}
-
-/// The octet of eight bits, the most significant first.
-fn octet(bits: &[bool]) -> u8 {
-    bits.iter().fold(0, |octet, bit| 2 * octet + u8::from(*bit))
-}
-
 impl Scrambler {
-    /// Nothing but zeros was sent before.
-    #[cfg(test)]
-    pub fn zero() -> Scrambler {
-        Scrambler { sent: vec![false; 58] }
-    }
-
-    /// Initial state 0x01 of Table 37: of the 58 bits sent before, only the earliest is 1.
-    pub fn one() -> Scrambler {
-        let mut sent = vec![false; 58];
-        sent[0] = true;
-        Scrambler { sent }
+    /// After a history: its bit 0 is the latest bit sent.
+    pub fn after(history: u64) -> Scrambler {
+        Scrambler { sent: bits::of_number(history, HISTORY_BITS) }
     }
 
     fn back(&self, distance: usize) -> bool {
@@ -36,35 +25,70 @@ impl Scrambler {
     }
 
     fn send(&mut self, user: bool) {
-        self.sent.push(user ^ self.back(39) ^ self.back(58));
+        self.sent.push(user ^ self.back(NEAR) ^ self.back(HISTORY_BITS));
+    }
+
+    /// The bits sent for a user's octets.
+    pub fn scramble(&mut self, user: &[u8]) -> Vec<bool> {
+        let start = self.sent.len();
+        for bit in bits::of_octets(user) {
+            self.send(bit);
+        }
+        self.sent[start..].to_vec()
     }
 
     /// The block sent for a user's block.
     pub fn block(&mut self, user: &[u8; 8]) -> Vec<u8> {
-        let start = self.sent.len();
-        for bit in bits(user) {
-            self.send(bit);
-        }
-        self.sent[start..].chunks(8).map(octet).collect()
+        bits::octets(&self.scramble(user))
     }
+
+    /// The last 58 bits sent.
+    pub fn history(&self) -> u64 {
+        bits::number(&self.sent[self.sent.len() - HISTORY_BITS..])
+    }
+}
+
+/// The user's octets from the bits received after a history: the same two earlier bits are added again.
+pub fn descramble(history: u64, received: &[bool]) -> Vec<u8> {
+    let all = [&bits::of_number(history, HISTORY_BITS)[..], received].concat();
+    let user = |k| all[k] ^ all[k - NEAR] ^ all[k - HISTORY_BITS];
+    bits::octets(&(HISTORY_BITS..all.len()).map(user).collect::<Vec<bool>>())
 }
 
 #[cfg(test)]
 mod tests {
-    use super::{bits, octet, Scrambler};
+    use super::{bits, descramble, Scrambler, INITIAL_ONE};
 
     /// Rows 1 and 2 of the dozen.
     #[test]
     fn a_single_user_bit_comes_back_in_two_blocks() {
-        let mut scrambler = Scrambler::zero();
+        let mut scrambler = Scrambler::after(0);
         let first = scrambler.block(&[0x80, 0, 0, 0, 0, 0, 0, 0]);
         assert_eq!(first, [0x80, 0x00, 0x00, 0x00, 0x01, 0x00, 0x00, 0x20]);
         assert_eq!(scrambler.block(&[0; 8]), [0x00, 0x02, 0x00, 0x00, 0x00, 0x00, 0x0C, 0x00]);
     }
 
     #[test]
-    fn the_most_significant_bit_goes_first() {
-        assert_eq!(bits(&[0xA0, 0x01])[..3], [true, false, true]);
-        assert_eq!(octet(&bits(&[0xA1])), 0xA1);
+    fn bit_0_of_a_history_is_the_latest() {
+        let mut scrambler = Scrambler::after(INITIAL_ONE);
+        assert_eq!(scrambler.history(), INITIAL_ONE);
+        scrambler.send(false);
+        assert_eq!(scrambler.history(), 1);
+    }
+
+    #[test]
+    fn what_was_scrambled_comes_back() {
+        let user: Vec<u8> = (0..=255).collect();
+        let sent = Scrambler::after(0x123_4567_89AB_CDEF).scramble(&user);
+        assert_eq!(descramble(0x123_4567_89AB_CDEF, &sent), user);
+    }
+
+    /// One flip becomes three, at 0, 39 and 58 bits.
+    #[test]
+    fn a_flip_shows_in_three_places() {
+        let mut received = bits::of_octets(&[0; 16]);
+        received[0] = true;
+        assert_eq!(bits::of_octets(&descramble(0, &received)).iter().filter(|bit| **bit).count(), 3);
+        assert_eq!(descramble(0, &received)[..8], [0x80, 0x00, 0x00, 0x00, 0x01, 0x00, 0x00, 0x20]);
     }
 }

@@ -2,7 +2,7 @@
 //! print, and the values that the scrambler and long division give.
 
 use crate::code::{Code, CRC12, FEC};
-use crate::scrambler::Scrambler;
+use crate::scrambler::{Scrambler, INITIAL_ONE};
 
 /// The source data of Table 37.
 const SOURCE_37: [[u8; 8]; 4] = [
@@ -56,7 +56,7 @@ fn hexadecimal(octets: &[u8]) -> String {
 
 /// Row k of Table 37 is block k, scrambled after the blocks before it.
 fn scrambled_lines() -> Vec<String> {
-    let mut scrambler = Scrambler::one();
+    let mut scrambler = Scrambler::after(INITIAL_ONE);
     let line = |(row, (source, printed)): (usize, (&[u8; 8], &str))| {
         format!("table 37 block {row} {}", value(&hexadecimal(&scrambler.block(source)), printed))
     };
@@ -94,7 +94,7 @@ pub fn lines() -> Vec<String> {
 
 #[cfg(test)]
 mod tests {
-    use super::{hexadecimal, lines, value, Scrambler, BLOCKS, SOURCE_37};
+    use super::{hexadecimal, lines, value, Scrambler, BLOCKS, INITIAL_ONE, SOURCE_37};
 
     #[test]
     fn only_two_rows_differ() {
@@ -113,7 +113,7 @@ mod tests {
     /// The scrambled data of Table 37 are the source data of Tables 52 and 54.
     #[test]
     fn table_37_leads_to_table_52() {
-        let mut scrambler = Scrambler::one();
+        let mut scrambler = Scrambler::after(INITIAL_ONE);
         let scrambled: Vec<Vec<u8>> = SOURCE_37.iter().map(|source| scrambler.block(source)).collect();
         assert_eq!(hexadecimal(&scrambled.concat()), hexadecimal(&BLOCKS.concat()));
     }

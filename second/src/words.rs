@@ -1,6 +1,7 @@
 //! Sync words made and read back (clauses 7.3.4 and 7.3.6): nothing, the mark, each bit of each field alone, everything,
 //! and 16 cases a mode from a generator; then commands of which one header was invalid.
 
+use crate::generator::Generator;
 use crate::sync::{Fields, Layout, CRC12, FEC};
 
 const PARITY_BITS_CRC12: u32 = 12;
@@ -11,26 +12,9 @@ const GENERATED: usize = 16;
 const NOTHING: Fields = Fields { parity: 0, command: 0, mark: false };
 const MARK: Fields = Fields { parity: 0, command: 0, mark: true };
 
-/// The generator: x' = (x * 1103515245 + 12345) mod 2^31.
-struct Generator {
-    x: u64,
-}
-
-impl Generator {
-    fn next(&mut self) -> u64 {
-        self.x = (self.x * 1_103_515_245 + 12_345) % 2_u64.pow(31);
-        self.x
-    }
-
-    /// The highest `count` of the next number's 31 bits.
-    fn highest(&mut self, count: u32) -> u32 {
-        (self.next() / 2_u64.pow(31 - count)) as u32
-    }
-}
-
 /// Cases from the numbers after 1: three for each, for its parity, its command and its mark.
 fn generated(parity_bits: u32) -> Vec<Fields> {
-    let mut generator = Generator { x: 1 };
+    let mut generator = Generator::from(1);
     let mut case = || Fields {
         parity: generator.highest(parity_bits),
         command: generator.highest(COMMAND_BITS),
@@ -94,7 +78,7 @@ pub fn lines() -> Vec<String> {
 
 #[cfg(test)]
 mod tests {
-    use super::{cases_crc12, cases_fec, Generator, CRC12, FEC};
+    use super::{cases_crc12, cases_fec, CRC12, FEC};
 
     #[test]
     fn what_is_written_reads_back() {
@@ -106,11 +90,5 @@ mod tests {
             let word = FEC.word(fields);
             assert_eq!((FEC.parity(word), FEC.command(word, 0)), (fields.parity, 0));
         }
-    }
-
-    #[test]
-    fn the_generator_goes_by_its_formula() {
-        let mut generator = Generator { x: 1 };
-        assert_eq!([generator.next(), generator.next()], [1_103_527_590, 377_401_575]);
     }
 }

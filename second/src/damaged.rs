@@ -1,0 +1,186 @@
+//! `second damaged`: what a receiver makes of seeded lanes, damaged and cut into calls (cases.rs has the generator and
+//! the digest).
+//!
+//! Seeds 1 to 600. Drawn: mode = draw(2); E = [1, 2, 3, 256][draw(4)]; N = 2 + draw(6) multiblocks; user octets;
+//! commands. The lane is made in one call of a fresh sender. Then kind = draw(6):
+//!   0  none
+//!   1  one burst of at most 9 lane bits in FEC, 12 in CRC-12
+//!   2  1 + draw(4) bursts of at most 14 lane bits
+//!   3  1 + draw(8) headers: block draw(32 N) gets 00 if draw(2) is 0, and 11 if it is 1
+//!   4  1 + draw(64) octets: octet draw(264 N) becomes draw(256)
+//!   5  both header bits flipped in every block of the multiblocks N / 2 (rounded down) to N - 1 that carries parity
+//! A burst of at most m bits: length = 1 + draw(m); first bit = draw(2112 N - length + 1); the first and the last are
+//! flipped, and each between, in order, if draw(2) is 1.
+//! Then the calls are drawn in which the lane is received, the first from a fresh state.
+//! A line: `damaged SEED MODE N KIND COUNT`, COUNT multiblocks released in all; for each ` STATUS/PLACE/PATTERN/COMMAND`;
+//! ` DIGEST` of all released octets; the end state as ` WAITING HISTORY TRUSTED COMMAND DIGEST`, the digest of its 256
+//! octets; and the longest run of statuses 0 and 1 over all releases as ` START LENGTH` in multiblocks, 0 0 if none.
+
+use crate::bits;
+use crate::cases::{draw_calls, draw_extent, draw_mode, Input};
+use crate::digest::Digest;
+use crate::frame;
+use crate::generator::Generator;
+use crate::longest;
+use crate::mode::{mode, Mode, BLOCKS, BLOCK_BITS, LANE_OCTETS, MULTIBLOCK_BITS, USER_OCTETS};
+use crate::receiver::{self, Lent, Receiver};
+
+const SEEDS: std::ops::RangeInclusive<u64> = 1..=600;
+const LONG_BURST: usize = 14;
+
+struct Case {
+    mode: u8,
+    multiblocks: usize,
+    kind: usize,
+    lane: Vec<u8>,
+}
+
+struct Outcome {
+    released: Lent,
+    state: Receiver,
+}
+
+/// Every lane bit of a set flipped.
+fn flipped(lane: &[u8], places: &[usize]) -> Vec<u8> {
+    let mut all = bits::of_octets(lane);
+    for place in places {
+        all[*place] ^= true;
+    }
+    bits::octets(&all)
+}
+
+/// The lane bits of a burst of at most so many.
+fn draw_burst(generator: &mut Generator, at_most: usize, lane_bits: usize) -> Vec<usize> {
+    let length = 1 + generator.draw(at_most);
+    let first = generator.draw(lane_bits - length + 1);
+    let last = first + length - 1;
+    (first..=last).filter(|place| *place == first || *place == last || generator.draw(2) == 1).collect()
+}
+
+/// The lane bits of all headers that carry parity in the multiblocks from `first` on.
+fn parity_headers(mode: &Mode, first: usize, multiblocks: usize) -> Vec<usize> {
+    let carries = |block: &usize| mode.layout.parity(1 << (31 - block % BLOCKS)) != 0;
+    let blocks = (BLOCKS * first..BLOCKS * multiblocks).filter(carries);
+    blocks.flat_map(|block| [BLOCK_BITS * block, BLOCK_BITS * block + 1]).collect()
+}
+
+fn damage(generator: &mut Generator, kind: usize, mode: &Mode, multiblocks: usize, lane: Vec<u8>) -> Vec<u8> {
+    let lane_bits = MULTIBLOCK_BITS * multiblocks;
+    match kind {
+        1 => flipped(&lane, &draw_burst(generator, mode.burst_limit, lane_bits)),
+        2 => (0..1 + generator.draw(4))
+            .fold(lane, |lane, _| flipped(&lane, &draw_burst(generator, LONG_BURST, lane_bits))),
+        3 => (0..1 + generator.draw(8)).fold(lane, |lane, _| {
+            let block = generator.draw(BLOCKS * multiblocks);
+            let bit = generator.draw(2) == 1;
+            frame::with_header(&lane, block, [bit, bit])
+        }),
+        4 => (0..1 + generator.draw(64)).fold(lane, |mut lane, _| {
+            let place = generator.draw(LANE_OCTETS * multiblocks);
+            lane[place] = generator.draw_octet();
+            lane
+        }),
+        5 => flipped(&lane, &parity_headers(mode, multiblocks / 2, multiblocks)),
+        _ => lane,
+    }
+}
+
+fn draw_case(generator: &mut Generator) -> Case {
+    let number = draw_mode(generator);
+    let e = draw_extent(generator);
+    let multiblocks = 2 + generator.draw(6);
+    let lane = Input::draw(generator, number, e, multiblocks).lane();
+    let kind = generator.draw(6);
+    let mode = mode(number).expect("a mode drawn is 0 or 1");
+    Case { mode: number, multiblocks, kind, lane: damage(generator, kind, mode, multiblocks, lane) }
+}
+
+fn receive(generator: &mut Generator, case: &Case) -> Outcome {
+    let mut released = Lent::room_for(0);
+    let mut state = Receiver::fresh();
+    for call in draw_calls(generator, case.multiblocks) {
+        let mut lent = Lent::room_for(call.len());
+        let lane = &case.lane[LANE_OCTETS * call.start..LANE_OCTETS * call.end];
+        let received = receiver::receive(case.mode, state, lane, &mut lent);
+        assert_eq!(received.refusal, 0);
+        released.append(&lent, received.count);
+        state = received.state;
+    }
+    Outcome { released, state }
+}
+
+fn case_and_outcome(seed: u64) -> (Case, Outcome) {
+    let mut generator = Generator::seeded(seed);
+    let case = draw_case(&mut generator);
+    let outcome = receive(&mut generator, &case);
+    (case, outcome)
+}
+
+fn line(seed: u64) -> String {
+    let (case, Outcome { released, state }) = case_and_outcome(seed);
+    let count = released.statuses.len();
+    let release = |k: usize| {
+        let Lent { statuses, places, patterns, commands, .. } = &released;
+        format!(" {}/{}/{}/{}", statuses[k], places[k], patterns[k], commands[k])
+    };
+    let releases: String = (0..count).map(release).collect();
+    let end = format!("{} {} {} {}", u8::from(state.waiting), state.history, u8::from(state.trusted), state.command);
+    let (start, length) = longest::span(&released.statuses);
+    assert_eq!(longest::longest_run(&released.octets, &released.statuses).part.len(), USER_OCTETS * length);
+    format!(
+        "damaged {seed} {} {} {} {count}{releases} {} {end} {} {start} {length}",
+        case.mode,
+        case.multiblocks,
+        case.kind,
+        Digest::of(&released.octets).hexadecimal(),
+        Digest::of(&state.octets).hexadecimal()
+    )
+}
+
+pub fn lines() -> Vec<String> {
+    SEEDS.map(line).collect()
+}
+
+#[cfg(test)]
+mod tests {
+    use super::{case_and_outcome, parity_headers, Outcome, SEEDS};
+    use crate::mode::mode;
+    use crate::receiver::{self, Lent, Receiver};
+
+    #[test]
+    fn the_parity_headers_of_each_mode() {
+        let [crc, fec] = [0, 1].map(|number| parity_headers(mode(number).unwrap(), 1, 2));
+        assert_eq!([crc.len(), fec.len()], [24, 52]);
+        assert_eq!([crc[0], crc[23]], [2112, 2112 + 66 * 14 + 1]);
+        assert_eq!([fec[0], fec[51]], [2112, 2112 + 66 * 26 + 1]);
+    }
+
+    #[test]
+    fn calls_release_what_one_call_releases() {
+        for seed in SEEDS {
+            let (case, Outcome { released, state }) = case_and_outcome(seed);
+            let mut lent = Lent::room_for(case.multiblocks - 1);
+            let whole = receiver::receive(case.mode, Receiver::fresh(), &case.lane, &mut lent);
+            assert_eq!((lent, whole.state), (released, state));
+        }
+    }
+
+    /// Each status occurs in each mode that has it, bursts in the data and in the parity, and marked commands.
+    #[test]
+    fn every_status_occurs() {
+        let mut seen = [[0; 8]; 2];
+        let (mut in_data, mut in_parity, mut marked) = (0, 0, 0);
+        for seed in SEEDS {
+            let (case, Outcome { released, .. }) = case_and_outcome(seed);
+            for (k, status) in released.statuses.iter().enumerate() {
+                seen[usize::from(case.mode)][usize::from(*status)] += 1;
+                in_data += usize::from(status & 1 == 1 && released.places[k] < 2048);
+                in_parity += usize::from(status & 1 == 1 && released.places[k] >= 2048);
+                marked += usize::from(released.commands[k] > 127);
+            }
+        }
+        assert!([0, 2, 4, 6].iter().all(|status| seen[0][*status] > 9));
+        assert!([0, 1, 2, 4, 5, 6].iter().all(|status| seen[1][*status] > 9));
+        assert!(in_data > 9 && in_parity > 9 && marked > 9);
+    }
+}

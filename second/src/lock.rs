@@ -1,0 +1,424 @@
+//! The two locks, one header a step (document 01, "Lock tables" and "Numbers of refusal", lines 1, 2, 3 and 9; clauses
+//! 7.6.1 and 7.6.2). The last 32 headers' bits are a list, the latest last, so that its places are those of a sync word.
+
+use crate::bits;
+use crate::mode::{is_extent, mode, BLOCKS, BLOCK_BITS};
+
+const END_MARK: usize = 22;
+const PILOT: usize = 27;
+const LOCKED_AFTER: u32 = 64;
+const LOST_AFTER: u32 = 16;
+const EXTENDED_LOCKED_AFTER: u32 = 4;
+const EXTENDED_LOST_AFTER: u32 = 8;
+
+#[derive(Clone, Copy, Debug, PartialEq)]
+pub struct HeaderLock {
+    pub locked: bool,
+    pub offset: u32,
+    pub run: u32,
+    pub bad: u32,
+}
+
+#[derive(Clone, Copy, Debug, PartialEq)]
+pub enum Phase {
+    Hunting,
+    Following,
+    Locked,
+}
+
+#[derive(Clone, Copy, Debug, PartialEq)]
+pub struct ExtendedLock {
+    pub phase: Phase,
+    /// How many headers were seen, at most 32.
+    pub seen: u32,
+    /// The bits of the last 32; a missing one is 0.
+    pub headers: [bool; BLOCKS],
+    pub good: u32,
+    pub bad: u32,
+    /// Blocks to the next look.
+    pub next: u32,
+}
+
+#[derive(Clone, Copy, Debug, PartialEq)]
+pub struct Lock {
+    pub header: HeaderLock,
+    pub extended: ExtendedLock,
+}
+
+#[derive(Debug, PartialEq)]
+pub struct Stepped {
+    pub refusal: u8,
+    pub lock: Lock,
+}
+
+fn is_valid(header: u8) -> bool {
+    header == 0b01 || header == 0b10
+}
+
+/// An invalid header is read as 0.
+fn carries(header: u8) -> bool {
+    header == 0b01
+}
+
+impl HeaderLock {
+    fn fresh() -> HeaderLock {
+        HeaderLock { locked: false, offset: 0, run: 0, bad: 0 }
+    }
+
+    fn is_in_range(&self) -> bool {
+        let bad = if self.locked { LOST_AFTER - 1 } else { 0 };
+        self.run < LOCKED_AFTER && self.bad <= bad && self.offset < BLOCK_BITS as u32
+    }
+
+    fn step(mut self, valid: bool) -> HeaderLock {
+        if valid {
+            self.run += 1;
+            if self.run == LOCKED_AFTER {
+                self = HeaderLock { locked: true, run: 0, bad: 0, ..self };
+            }
+        } else if self.locked {
+            self.run = 0;
+            self.bad += 1;
+            if self.bad == LOST_AFTER {
+                self = HeaderLock { locked: false, bad: 0, ..self };
+            }
+        } else {
+            self.run = 0;
+            self.offset = (self.offset + 1) % BLOCK_BITS as u32;
+        }
+        self
+    }
+}
+
+impl ExtendedLock {
+    fn fresh() -> ExtendedLock {
+        ExtendedLock { phase: Phase::Hunting, seen: 0, headers: [false; BLOCKS], good: 0, bad: 0, next: 0 }
+    }
+
+    fn is_in_range(&self, e: u32) -> bool {
+        let look = 1..=32 * e;
+        let missing = BLOCKS - (self.seen as usize).min(BLOCKS);
+        let kept = self.seen as usize <= BLOCKS && self.headers[..missing].iter().all(|bit| !bit);
+        kept && match self.phase {
+            Phase::Hunting => (self.good, self.bad, self.next) == (0, 0, 0),
+            Phase::Following => {
+                (1..EXTENDED_LOCKED_AFTER).contains(&self.good) && self.bad == 0 && look.contains(&self.next)
+            }
+            Phase::Locked => self.good == 0 && self.bad < EXTENDED_LOST_AFTER && look.contains(&self.next),
+        }
+    }
+
+    fn see(&mut self, header: u8) {
+        self.headers.rotate_left(1);
+        self.headers[BLOCKS - 1] = carries(header);
+        self.seen = (self.seen + 1).min(BLOCKS as u32);
+    }
+
+    fn matches(&self) -> bool {
+        let pilot = [false, false, false, false, true];
+        self.seen as usize == BLOCKS && self.headers[END_MARK] && self.headers[PILOT..] == pilot
+    }
+
+    fn hunt(self) -> ExtendedLock {
+        ExtendedLock { phase: Phase::Hunting, good: 0, bad: 0, next: 0, ..self }
+    }
+
+    fn follow(self, good: u32, e: u32) -> ExtendedLock {
+        if good == EXTENDED_LOCKED_AFTER {
+            ExtendedLock { phase: Phase::Locked, good: 0, bad: 0, next: 32 * e, ..self }
+        } else {
+            ExtendedLock { phase: Phase::Following, good, bad: 0, next: 32 * e, ..self }
+        }
+    }
+
+    fn hold(self, bad: u32, e: u32) -> ExtendedLock {
+        if bad == EXTENDED_LOST_AFTER {
+            self.hunt()
+        } else {
+            ExtendedLock { bad, next: 32 * e, ..self }
+        }
+    }
+
+    fn step(mut self, e: u32, header: u8) -> ExtendedLock {
+        self.see(header);
+        self.next = self.next.saturating_sub(1);
+        let looks = self.next == 0;
+        match (self.phase, looks, self.matches()) {
+            (Phase::Hunting, _, true) => self.follow(1, e),
+            (Phase::Following, true, true) => self.follow(self.good + 1, e),
+            (Phase::Following, true, false) => self.hunt(),
+            (Phase::Locked, true, true) => self.hold(0, e),
+            (Phase::Locked, true, false) => self.hold(self.bad + 1, e),
+            _ => self,
+        }
+    }
+}
+
+impl Lock {
+    pub fn fresh() -> Lock {
+        Lock { header: HeaderLock::fresh(), extended: ExtendedLock::fresh() }
+    }
+
+    fn is_in_range(&self, e: u32) -> bool {
+        let together = self.header.locked || self.extended == ExtendedLock::fresh();
+        self.header.is_in_range() && self.extended.is_in_range(e) && together
+    }
+
+    /// The fields in their order: header lock's locked, offset, run, bad; extended lock's phase (0 hunting, 1 following,
+    /// 2 locked), seen, headers (the latest is bit 0), good, bad, next.
+    pub fn numbers(&self) -> [u64; 10] {
+        let (header, extended) = (&self.header, &self.extended);
+        [
+            u64::from(header.locked),
+            u64::from(header.offset),
+            u64::from(header.run),
+            u64::from(header.bad),
+            extended.phase as u64,
+            u64::from(extended.seen),
+            bits::number(&extended.headers),
+            u64::from(extended.good),
+            u64::from(extended.bad),
+            u64::from(extended.next),
+        ]
+    }
+}
+
+/// The lowest number of refusal that applies, or 0.
+fn refusal(number: u8, e: u32, lock: &Lock, header: u8) -> u8 {
+    if mode(number).is_none() {
+        1
+    } else if !is_extent(e) {
+        2
+    } else if !lock.is_in_range(e) {
+        3
+    } else if header > 3 {
+        9
+    } else {
+        0
+    }
+}
+
+/// Both locks after one more header. The header that gives header lock does not step extended lock.
+pub fn step(number: u8, e: u32, lock: Lock, header: u8) -> Stepped {
+    let refusal = refusal(number, e, &lock, header);
+    if refusal != 0 {
+        return Stepped { refusal, lock };
+    }
+    let after = lock.header.step(is_valid(header));
+    let extended =
+        if lock.header.locked && after.locked { lock.extended.step(e, header) } else { ExtendedLock::fresh() };
+    Stepped { refusal: 0, lock: Lock { header: after, extended } }
+}
+
+#[cfg(test)]
+mod tests {
+    use super::{step, ExtendedLock, HeaderLock, Lock, Phase};
+    use crate::frame::header_values;
+    use crate::sender::{send, Sender};
+
+    const ONE: u8 = 1;
+    const ZERO: u8 = 2;
+    const BAD: u8 = 3;
+
+    fn stepped(e: u32, lock: Lock, headers: &[u8]) -> Lock {
+        headers.iter().fold(lock, |lock, header| {
+            let stepped = step(0, e, lock, *header);
+            assert_eq!(stepped.refusal, 0);
+            stepped.lock
+        })
+    }
+
+    fn header_locked() -> Lock {
+        stepped(1, Lock::fresh(), &[ZERO; 64])
+    }
+
+    /// A multiblock's headers, with its end mark and the five last bits.
+    fn word(matching: bool) -> Vec<u8> {
+        let mut headers = vec![ZERO; 32];
+        headers[22] = if matching { ONE } else { ZERO };
+        headers[31] = ONE;
+        headers
+    }
+
+    fn words(matching: &[bool]) -> Vec<u8> {
+        matching.iter().flat_map(|matching| word(*matching)).collect()
+    }
+
+    #[test]
+    fn header_lock_at_64() {
+        let nearly = stepped(1, Lock::fresh(), &[ONE; 63]);
+        assert_eq!(nearly.header, HeaderLock { locked: false, offset: 0, run: 63, bad: 0 });
+        let lock = stepped(1, nearly, &[ZERO]);
+        assert_eq!(lock.header, HeaderLock { locked: true, offset: 0, run: 0, bad: 0 });
+        assert_eq!(lock.extended, ExtendedLock::fresh());
+        assert_eq!(stepped(1, lock, &[ONE]).extended.seen, 1);
+    }
+
+    #[test]
+    fn an_invalid_header_slips_by_one() {
+        let slipped = stepped(1, stepped(1, Lock::fresh(), &[ONE; 40]), &[BAD, 0]);
+        assert_eq!(slipped.header, HeaderLock { locked: false, offset: 2, run: 0, bad: 0 });
+        assert_eq!(stepped(1, slipped, &[BAD; 64]).header.offset, 0);
+    }
+
+    #[test]
+    fn header_lock_is_lost_at_16() {
+        let nearly = stepped(1, header_locked(), &[BAD; 15]);
+        assert_eq!(nearly.header, HeaderLock { locked: true, offset: 0, run: 0, bad: 15 });
+        assert_eq!(nearly.extended.seen, 15);
+        let lost = stepped(1, nearly, &[BAD]);
+        assert_eq!(lost, Lock::fresh());
+    }
+
+    #[test]
+    fn a_run_of_64_forgives() {
+        let forgiven = stepped(1, stepped(1, header_locked(), &[BAD; 15]), &[ONE; 64]);
+        assert_eq!(forgiven.header, HeaderLock { locked: true, offset: 0, run: 0, bad: 0 });
+        let short = stepped(1, stepped(1, header_locked(), &[BAD; 15]), &[ONE; 63]);
+        assert!(!stepped(1, short, &[BAD]).header.locked);
+    }
+
+    #[test]
+    fn a_match_wants_32_headers() {
+        let nearly = stepped(1, header_locked(), &word(true)[1..]);
+        assert_eq!((nearly.extended.phase, nearly.extended.seen), (Phase::Hunting, 31));
+        let following = stepped(1, header_locked(), &word(true));
+        let is = following.extended;
+        assert_eq!((is.phase, is.seen, is.good, is.bad, is.next), (Phase::Following, 32, 1, 0, 32));
+    }
+
+    #[test]
+    fn extended_lock_at_4_and_lost_at_8() {
+        let three = stepped(1, header_locked(), &words(&[true; 3]));
+        assert_eq!((three.extended.phase, three.extended.good), (Phase::Following, 3));
+        let four = stepped(1, three, &word(true));
+        let is = four.extended;
+        assert_eq!((is.phase, is.good, is.bad, is.next), (Phase::Locked, 0, 0, 32));
+        let seven = stepped(1, four, &words(&[false; 7]));
+        assert_eq!((seven.extended.phase, seven.extended.bad), (Phase::Locked, 7));
+        assert_eq!(stepped(1, seven, &word(true)).extended.bad, 0);
+        let eight = stepped(1, seven, &word(false)).extended;
+        assert_eq!((eight.phase, eight.seen, eight.good, eight.bad, eight.next), (Phase::Hunting, 32, 0, 0, 0));
+        assert!(eight.headers[31]);
+    }
+
+    #[test]
+    fn a_miss_while_following_hunts() {
+        let hunts = stepped(1, header_locked(), &words(&[true, true, false]));
+        assert_eq!((hunts.extended.phase, hunts.extended.good), (Phase::Hunting, 0));
+    }
+
+    #[test]
+    fn matches_in_between_are_ignored() {
+        let between = stepped(2, header_locked(), &words(&[true, true]));
+        assert_eq!((between.extended.phase, between.extended.good, between.extended.next), (Phase::Following, 1, 32));
+        let looked = stepped(2, between, &word(true));
+        assert_eq!((looked.extended.good, looked.extended.next), (2, 64));
+    }
+
+    #[test]
+    fn an_invalid_header_carries_0() {
+        let mut headers = word(true);
+        headers[27] = BAD;
+        assert_eq!(stepped(1, header_locked(), &headers).extended.phase, Phase::Following);
+        headers[22] = BAD;
+        assert_eq!(stepped(1, header_locked(), &headers).extended.phase, Phase::Hunting);
+    }
+
+    /// The headers of an undamaged lane, from a fresh sender.
+    fn lane_headers(mode: u8, e: u32, multiblocks: usize) -> Vec<u8> {
+        let mut lane = vec![0; 264 * multiblocks];
+        let user: Vec<u8> = (0..256 * multiblocks).map(|k| (k * k / 11) as u8).collect();
+        send(mode, e, Sender::fresh(), &user, &vec![0; multiblocks], &mut lane);
+        header_values(&lane)
+    }
+
+    fn blocks_to_both(e: u32, headers: &[u8]) -> usize {
+        let mut lock = Lock::fresh();
+        let both = |lock: &Lock| lock.header.locked && lock.extended.phase == Phase::Locked;
+        let mut taken = 0;
+        while !both(&lock) {
+            lock = stepped(e, lock, &headers[taken..=taken]);
+            taken += 1;
+        }
+        assert!(headers[taken..].iter().all(|header| {
+            lock = stepped(e, lock, &[*header]);
+            both(&lock)
+        }));
+        taken
+    }
+
+    /// The bound 95 + 128 E is met from every block, and attained from some.
+    #[test]
+    fn an_undamaged_crc_lane_is_held() {
+        for e in [1, 2, 3] {
+            let headers = lane_headers(0, e, 6 * e as usize + 4);
+            let worst = (0..32 * e as usize).map(|from| blocks_to_both(e, &headers[from..])).max();
+            assert_eq!(worst, Some(95 + 128 * e as usize));
+        }
+    }
+
+    fn refusal_of(e: u32, lock: Lock) -> u8 {
+        let stepped = step(0, e, lock, ONE);
+        assert!(stepped.refusal == 0 || stepped.lock == lock);
+        stepped.refusal
+    }
+
+    #[test]
+    fn refusals_of_arguments() {
+        assert_eq!([0, 1, 2].map(|mode| step(mode, 1, Lock::fresh(), ONE).refusal), [0, 0, 1]);
+        assert_eq!([0, 1, 256, 257].map(|e| step(0, e, Lock::fresh(), ONE).refusal), [2, 0, 0, 2]);
+        assert_eq!([0, 1, 2, 3, 4, 255].map(|header| step(0, 1, Lock::fresh(), header).refusal), [0, 0, 0, 0, 9, 9]);
+        let bad = Lock { header: HeaderLock { run: 64, ..HeaderLock::fresh() }, ..Lock::fresh() };
+        assert_eq!([step(2, 0, bad, 4).refusal, step(0, 0, bad, 4).refusal, step(0, 1, bad, 4).refusal], [1, 2, 3]);
+    }
+
+    #[test]
+    fn refusals_of_header_locks() {
+        let check = |header, refusal| assert_eq!(refusal_of(1, Lock { header, ..Lock::fresh() }), refusal);
+        let locked = HeaderLock { locked: true, offset: 65, run: 63, bad: 15 };
+        check(locked, 0);
+        check(HeaderLock { run: 64, ..locked }, 3);
+        check(HeaderLock { bad: 16, ..locked }, 3);
+        check(HeaderLock { offset: 66, ..locked }, 3);
+        check(HeaderLock { locked: false, bad: 0, ..locked }, 0);
+        check(HeaderLock { locked: false, bad: 1, ..locked }, 3);
+    }
+
+    #[test]
+    fn refusals_of_extended_locks() {
+        let check = |extended, refusal| assert_eq!(refusal_of(2, Lock { extended, ..header_locked() }), refusal);
+        let fresh = ExtendedLock::fresh();
+        let mut headers = [false; 32];
+        headers[16] = true;
+        check(ExtendedLock { seen: 16, headers, ..fresh }, 0);
+        check(ExtendedLock { seen: 15, headers, ..fresh }, 3);
+        check(ExtendedLock { seen: 32, headers: [true; 32], ..fresh }, 0);
+        check(ExtendedLock { seen: 33, headers: [true; 32], ..fresh }, 3);
+        check(ExtendedLock { good: 1, ..fresh }, 3);
+        check(ExtendedLock { bad: 1, ..fresh }, 3);
+        check(ExtendedLock { next: 1, ..fresh }, 3);
+        let following = ExtendedLock { phase: Phase::Following, good: 1, next: 1, ..fresh };
+        check(following, 0);
+        check(ExtendedLock { good: 0, ..following }, 3);
+        check(ExtendedLock { good: 3, ..following }, 0);
+        check(ExtendedLock { good: 4, ..following }, 3);
+        check(ExtendedLock { bad: 1, ..following }, 3);
+        check(ExtendedLock { next: 0, ..following }, 3);
+        check(ExtendedLock { next: 64, ..following }, 0);
+        check(ExtendedLock { next: 65, ..following }, 3);
+        let locked = ExtendedLock { phase: Phase::Locked, bad: 7, next: 64, ..fresh };
+        check(locked, 0);
+        check(ExtendedLock { bad: 8, ..locked }, 3);
+        check(ExtendedLock { good: 1, ..locked }, 3);
+        check(ExtendedLock { next: 0, ..locked }, 3);
+        check(ExtendedLock { next: 65, ..locked }, 3);
+    }
+
+    #[test]
+    fn extended_lock_is_fresh_while_header_lock_hunts() {
+        let hunting = Lock { extended: ExtendedLock { seen: 1, ..ExtendedLock::fresh() }, ..Lock::fresh() };
+        assert_eq!(refusal_of(1, hunting), 3);
+        assert_eq!(refusal_of(1, Lock { header: HeaderLock { locked: true, ..HeaderLock::fresh() }, ..hunting }), 0);
+    }
+}

@@ -1,0 +1,129 @@
+//! `second locks`: what the lock machines make of seeded header streams (cases.rs has the generator and the digest).
+//!
+//! Seeds 1 to 300. Drawn: mode = draw(2); E = 1 + draw(3); user octets and commands of 6 E + 4 multiblocks. The lane is
+//! made in one call of a fresh sender. Then the block of the first header, draw(32 E); noise = draw(3); and, for each
+//! header from that block on to the lane's end, in order: with noise 0 nothing; with noise 1, if draw(64) is 0, and with
+//! noise 2, if draw(8) is 0, the header's value becomes draw(4).
+//! Seeds 241 to 300 go on: 384 E valid headers, 1 + draw(2) each, that lose extended lock; and 192 headers, draw(4) each,
+//! that lose header lock.
+//! A line: `lock SEED MODE E NOISE STEPS DIGEST`, then the fields of the last state. The digest goes over the fields of the
+//! state after each step, each a number: locked, offset, run, bad; phase (0 hunting, 1 following, 2 locked), seen, headers
+//! (the latest is bit 0), good, bad, next.
+
+use std::ops::RangeInclusive;
+
+use crate::cases::{draw_mode, Input};
+use crate::digest::Digest;
+use crate::frame;
+use crate::generator::Generator;
+use crate::lock::{step, Lock};
+use crate::mode::BLOCKS;
+
+const SEEDS: RangeInclusive<u64> = 1..=300;
+const LONGER_SEEDS: RangeInclusive<u64> = 241..=300;
+const VALID_PER_EXTENT: usize = 384;
+const LAST: usize = 192;
+
+struct Case {
+    mode: u8,
+    e: u32,
+    noise: usize,
+    headers: Vec<u8>,
+}
+
+fn noisy(generator: &mut Generator, noise: usize, header: u8) -> u8 {
+    let replaced = match noise {
+        1 => generator.draw(64) == 0,
+        2 => generator.draw(8) == 0,
+        _ => false,
+    };
+    if replaced {
+        generator.draw(4) as u8
+    } else {
+        header
+    }
+}
+
+/// What comes after the lane in a longer case.
+fn draw_tail(generator: &mut Generator, extent: usize) -> Vec<u8> {
+    let valid: Vec<u8> = (0..VALID_PER_EXTENT * extent).map(|_| 1 + generator.draw(2) as u8).collect();
+    let any: Vec<u8> = (0..LAST).map(|_| generator.draw(4) as u8).collect();
+    [valid, any].concat()
+}
+
+fn case(seed: u64) -> Case {
+    let mut generator = Generator::seeded(seed);
+    let mode = draw_mode(&mut generator);
+    let extent = 1 + generator.draw(3);
+    let e = extent as u32;
+    let lane = Input::draw(&mut generator, mode, e, 6 * extent + 4).lane();
+    let first = generator.draw(BLOCKS * extent);
+    let noise = generator.draw(3);
+    let clean = &frame::header_values(&lane)[first..];
+    let mut headers: Vec<u8> = clean.iter().map(|header| noisy(&mut generator, noise, *header)).collect();
+    if LONGER_SEEDS.contains(&seed) {
+        headers.extend(draw_tail(&mut generator, extent));
+    }
+    Case { mode, e, noise, headers }
+}
+
+/// The states along the way, from the one after the first header on.
+fn states(case: &Case) -> Vec<Lock> {
+    let next = |lock: &mut Lock, header: &u8| {
+        let stepped = step(case.mode, case.e, *lock, *header);
+        assert_eq!(stepped.refusal, 0);
+        *lock = stepped.lock;
+        Some(*lock)
+    };
+    case.headers.iter().scan(Lock::fresh(), next).collect()
+}
+
+fn line(seed: u64) -> String {
+    let case = case(seed);
+    let states = states(&case);
+    let numbers = states.iter().flat_map(Lock::numbers);
+    let digest = numbers.fold(Digest::empty(), Digest::with_number).hexadecimal();
+    let last = states.last().map_or(Lock::fresh(), |lock| *lock).numbers().map(|number| number.to_string());
+    let Case { mode, e, noise, headers } = case;
+    format!("lock {seed} {mode} {e} {noise} {} {digest} {}", headers.len(), last.join(" "))
+}
+
+pub fn lines() -> Vec<String> {
+    SEEDS.map(line).collect()
+}
+
+#[cfg(test)]
+mod tests {
+    use super::{case, states, SEEDS};
+    use crate::lock::{Lock, Phase};
+
+    /// Every two neighbouring states of every case.
+    fn changes() -> Vec<(Lock, Lock)> {
+        let of_seed = |seed| states(&case(seed)).windows(2).map(|pair| (pair[0], pair[1])).collect::<Vec<_>>();
+        SEEDS.flat_map(of_seed).collect()
+    }
+
+    #[test]
+    fn every_row_of_the_tables_is_used() {
+        let changes = changes();
+        let count = |holds: fn(&Lock, &Lock) -> bool| changes.iter().filter(|(old, new)| holds(old, new)).count();
+        let phases = |old, new| {
+            let held = changes.iter().filter(|(before, after)| before.header.locked && after.header.locked);
+            held.filter(|(before, after)| before.extended.phase == old && after.extended.phase == new).count()
+        };
+        let used = [
+            count(|old, new| !old.header.locked && new.header.locked),
+            count(|old, new| old.header.locked && !new.header.locked),
+            count(|old, new| old.header.offset == 65 && new.header.offset == 0),
+            count(|old, new| new.header.locked && old.header.bad > 0 && new.header.bad == 0),
+            count(|old, new| !new.header.locked && old.extended.phase == Phase::Locked),
+            count(|old, new| old.extended.bad == 6 && new.extended.bad == 7),
+            count(|old, new| new.extended.phase == Phase::Locked && old.extended.bad > 0 && new.extended.bad == 0),
+            phases(Phase::Hunting, Phase::Following),
+            phases(Phase::Following, Phase::Hunting),
+            phases(Phase::Following, Phase::Locked),
+            phases(Phase::Locked, Phase::Hunting),
+        ];
+        assert!(used.iter().all(|count| *count > 0));
+    }
+}

@@ -1,0 +1,403 @@
+//! The receiver, bit by bit (document 01, "What the receiver releases" and "Numbers of refusal"). A multiblock waits
+//! until the next has come with its parity. The two together are a codeword: it agrees where long division leaves
+//! nothing, and else, in FEC mode, the burst that leaves the same is flipped.
+
+use std::collections::HashMap;
+use std::sync::LazyLock;
+
+use crate::bits;
+use crate::bursts::{self, Burst};
+use crate::frame::Multiblock;
+use crate::mode::{mode, Mode, DATA_BITS, LANE_OCTETS, MOST_MULTIBLOCKS, USER_OCTETS};
+use crate::polynomial::Polynomial;
+use crate::scrambler::{descramble, HISTORY_BITS};
+
+const HIGHEST_MARKED_COMMAND: u32 = 255;
+const UNTRUSTED: u8 = 4;
+
+#[derive(Clone, Debug, PartialEq)]
+pub struct Receiver {
+    pub waiting: bool,
+    pub octets: [u8; USER_OCTETS],
+    pub history: u64,
+    pub trusted: bool,
+    pub command: u32,
+}
+
+#[derive(Debug, PartialEq)]
+pub struct Received {
+    pub refusal: u8,
+    /// Multiblocks released.
+    pub count: usize,
+    pub state: Receiver,
+}
+
+/// What the caller lends.
+#[derive(Clone, Debug, PartialEq)]
+pub struct Lent {
+    pub octets: Vec<u8>,
+    pub statuses: Vec<u8>,
+    pub commands: Vec<u32>,
+    pub places: Vec<u16>,
+    pub patterns: Vec<u16>,
+}
+
+impl Lent {
+    /// Zeros for so many multiblocks.
+    pub fn room_for(count: usize) -> Lent {
+        Lent {
+            octets: vec![0; USER_OCTETS * count],
+            statuses: vec![0; count],
+            commands: vec![0; count],
+            places: vec![0; count],
+            patterns: vec![0; count],
+        }
+    }
+
+    /// The first places of another, so many multiblocks, go to the end of these.
+    pub fn append(&mut self, other: &Lent, count: usize) {
+        self.octets.extend(&other.octets[..USER_OCTETS * count]);
+        self.statuses.extend(&other.statuses[..count]);
+        self.commands.extend(&other.commands[..count]);
+        self.places.extend(&other.places[..count]);
+        self.patterns.extend(&other.patterns[..count]);
+    }
+
+    fn holds(&self, count: usize) -> bool {
+        let lists = [self.statuses.len(), self.commands.len(), self.places.len(), self.patterns.len()];
+        self.octets.len() >= USER_OCTETS * count && lists.iter().all(|length| *length >= count)
+    }
+
+    fn write(&mut self, k: usize, release: &Release) {
+        self.octets[USER_OCTETS * k..][..USER_OCTETS].copy_from_slice(&release.octets);
+        self.statuses[k] = release.status;
+        self.commands[k] = release.command;
+        self.places[k] = release.place;
+        self.patterns[k] = release.pattern;
+    }
+}
+
+struct Release {
+    octets: Vec<u8>,
+    status: u8,
+    command: u32,
+    place: u16,
+    pattern: u16,
+}
+
+/// Every burst that can be mended, by what it leaves.
+static BURSTS: LazyLock<HashMap<u32, Burst>> = LazyLock::new(bursts::by_remainder);
+
+/// What a codeword turns out to be.
+enum Verdict {
+    Agrees,
+    Repaired(Burst),
+    Failed,
+}
+
+impl Verdict {
+    fn of(mode: &Mode, codeword: &[bool]) -> Verdict {
+        match mode.code.remainder(&Polynomial::of_bits(codeword)) {
+            0 => Verdict::Agrees,
+            left if mode.repairs => BURSTS.get(&left).map_or(Verdict::Failed, |burst| Verdict::Repaired(*burst)),
+            _ => Verdict::Failed,
+        }
+    }
+
+    fn flipped_positions(&self) -> Vec<usize> {
+        match self {
+            Verdict::Repaired(burst) => burst.positions(),
+            _ => vec![],
+        }
+    }
+
+    /// Status, place and pattern.
+    fn numbers(&self) -> (u8, u16, u16) {
+        match self {
+            Verdict::Agrees => (0, 0, 0),
+            Verdict::Repaired(burst) => (1, burst.place as u16, burst.pattern as u16),
+            Verdict::Failed => (2, 0, 0),
+        }
+    }
+}
+
+impl Receiver {
+    pub fn fresh() -> Receiver {
+        Receiver { waiting: false, octets: [0; USER_OCTETS], history: 0, trusted: false, command: 0 }
+    }
+
+    fn is_in_range(&self, mode: &Mode) -> bool {
+        let highest_command = if mode.highest_command == 0 { 0 } else { HIGHEST_MARKED_COMMAND };
+        let fits = self.history >> HISTORY_BITS == 0 && self.command <= highest_command;
+        fits && (self.waiting || *self == Receiver::fresh())
+    }
+
+    /// How many are released when so many are received.
+    fn released(&self, received: usize) -> usize {
+        if self.waiting {
+            received
+        } else {
+            received.saturating_sub(1)
+        }
+    }
+
+    /// The multiblock that has come waits from now on.
+    fn waiting_with(mode: &Mode, come: &Multiblock, history: u64, trusted: bool) -> Receiver {
+        let octets = bits::octets(&come.data).try_into().expect("a multiblock has 256 octets of data");
+        let command = mode.layout.command(come.word, come.invalid);
+        Receiver { waiting: true, octets, history, trusted, command }
+    }
+
+    /// The multiblock that waits is released, now that the next one has come.
+    fn release(&self, mode: &Mode, come: &Multiblock) -> (Receiver, Release) {
+        let parity = u64::from(mode.layout.parity(come.word));
+        let mut codeword = [bits::of_octets(&self.octets), bits::of_number(parity, mode.code.width())].concat();
+        let verdict = Verdict::of(mode, &codeword);
+        for position in verdict.flipped_positions() {
+            codeword[position] ^= true;
+        }
+        let data = &codeword[..DATA_BITS];
+        let (status, place, pattern) = verdict.numbers();
+        let release = Release {
+            octets: descramble(self.history, data),
+            status: if self.trusted { status } else { status + UNTRUSTED },
+            command: self.command,
+            place,
+            pattern,
+        };
+        let history = bits::number(&data[DATA_BITS - HISTORY_BITS..]);
+        (Receiver::waiting_with(mode, come, history, status != 2), release)
+    }
+
+    /// The state after a multiblock has come, and what was released.
+    fn receive_one(&self, mode: &Mode, lane: &[u8]) -> (Receiver, Option<Release>) {
+        let come = Multiblock::of(&bits::of_octets(lane));
+        if self.waiting {
+            let (after, release) = self.release(mode, &come);
+            (after, Some(release))
+        } else {
+            (Receiver::waiting_with(mode, &come, 0, false), None)
+        }
+    }
+}
+
+/// The lowest number of refusal that applies, or 0.
+fn refusal(number: u8, state: &Receiver, lane: &[u8], lent: &Lent) -> u8 {
+    let Some(mode) = mode(number) else { return 1 };
+    let multiblocks = lane.len() / LANE_OCTETS;
+    let refused = [
+        (3, !state.is_in_range(mode)),
+        (4, !lane.len().is_multiple_of(LANE_OCTETS)),
+        (5, multiblocks > MOST_MULTIBLOCKS),
+        (7, !lent.holds(state.released(multiblocks))),
+    ];
+    refused.iter().find(|(_, applies)| *applies).map_or(0, |(number, _)| *number)
+}
+
+/// Receives the multiblocks of the lane's octets; what is released goes to the start of what is lent.
+pub fn receive(number: u8, state: Receiver, lane: &[u8], lent: &mut Lent) -> Received {
+    let refusal = refusal(number, &state, lane, lent);
+    let (0, Some(mode)) = (refusal, mode(number)) else { return Received { refusal, count: 0, state } };
+    let mut state = state;
+    let mut count = 0;
+    for octets in lane.chunks(LANE_OCTETS) {
+        let (after, released) = state.receive_one(mode, octets);
+        if let Some(release) = released {
+            lent.write(count, &release);
+            count += 1;
+        }
+        state = after;
+    }
+    Received { refusal: 0, count, state }
+}
+
+#[cfg(test)]
+mod tests {
+    use super::{receive, Lent, Received, Receiver};
+    use crate::bits;
+    use crate::frame::with_header;
+    use crate::sender::{send, Sender};
+
+    const E: u32 = 2;
+
+    fn user(multiblocks: usize) -> Vec<u8> {
+        (0..256 * multiblocks as u32).map(|k| (k * k / 5 + k / 256) as u8).collect()
+    }
+
+    fn lane(mode: u8, multiblocks: usize, command: u32) -> Vec<u8> {
+        let mut lane = vec![0; 264 * multiblocks];
+        let sent = send(mode, E, Sender::fresh(), &user(multiblocks), &vec![command; multiblocks], &mut lane);
+        assert_eq!(sent.refusal, 0);
+        lane
+    }
+
+    fn received(mode: u8, lane: &[u8]) -> (Received, Lent) {
+        let mut lent = Lent::room_for(lane.len() / 264);
+        let received = receive(mode, Receiver::fresh(), lane, &mut lent);
+        (received, lent)
+    }
+
+    /// Flips codeword positions of multiblock 1 of a FEC lane: data, or parity in the headers of the next.
+    fn flip(lane: &mut Vec<u8>, positions: &[usize]) {
+        let mut all = bits::of_octets(lane);
+        for position in positions {
+            if *position < 2048 {
+                all[2112 + 66 * (position / 64) + 2 + position % 64] ^= true;
+            } else {
+                let parity = position - 2048;
+                let block = if parity < 22 { parity } else { parity + 1 };
+                all[2 * 2112 + 66 * block] ^= true;
+                all[2 * 2112 + 66 * block + 1] ^= true;
+            }
+        }
+        *lane = bits::octets(&all);
+    }
+
+    /// Status, place and pattern of multiblock 1, and whether its octets are those sent.
+    fn after_flips(positions: &[usize]) -> (u8, u16, u16, bool) {
+        let mut lane = lane(1, 4, 0);
+        flip(&mut lane, positions);
+        let (received, lent) = received(1, &lane);
+        assert_eq!(received.count, 3);
+        let same = lent.octets[256..512] == user(4)[256..512];
+        (lent.statuses[1], lent.places[1], lent.patterns[1], same)
+    }
+
+    #[test]
+    fn a_clean_lane_comes_back() {
+        for mode in [0, 1] {
+            let command = if mode == 0 { 0x55 } else { 0 };
+            let (received, lent) = received(mode, &lane(mode, 4, command));
+            assert_eq!((received.refusal, received.count), (0, 3));
+            assert_eq!(lent.octets[..768], user(4)[..768]);
+            assert_eq!((lent.statuses, lent.commands), (vec![4, 0, 0, 0], vec![command, command, command, 0]));
+            assert!(received.state.waiting && received.state.trusted);
+        }
+    }
+
+    #[test]
+    fn bursts_of_9_are_flipped_and_of_10_fail() {
+        let ends = |place: usize, length: usize| vec![place, place + length - 1];
+        assert_eq!(after_flips(&ends(0, 9)), (1, 0, 257, true));
+        assert_eq!(after_flips(&ends(2065, 9)), (1, 2065, 257, true));
+        assert_eq!(after_flips(&ends(2040, 9)), (1, 2040, 257, true));
+        assert_eq!(after_flips(&(100..109).collect::<Vec<usize>>()), (1, 100, 511, true));
+        assert_eq!(after_flips(&[2073]), (1, 2073, 1, true));
+        assert_eq!(after_flips(&ends(0, 10)), (2, 0, 0, false));
+        assert_eq!(after_flips(&ends(2064, 10)), (2, 0, 0, true));
+        assert_eq!(after_flips(&[0, 2073]), (2, 0, 0, false));
+    }
+
+    #[test]
+    fn after_a_failed_one_only_eight_octets_are_lost() {
+        let mut lane = lane(1, 4, 0);
+        flip(&mut lane, &[1990, 2047]);
+        let (_, lent) = received(1, &lane);
+        assert_eq!(lent.statuses[..3], [4, 2, 4]);
+        assert_ne!(lent.octets[512..520], user(4)[512..520]);
+        assert_eq!(lent.octets[520..768], user(4)[520..768]);
+    }
+
+    #[test]
+    fn crc_finds_and_mends_nothing() {
+        let mut lane = lane(0, 4, 9);
+        flip(&mut lane, &[700]);
+        let (_, lent) = received(0, &lane);
+        assert_eq!((lent.statuses, lent.places, lent.patterns), (vec![4, 2, 4, 0], vec![0; 4], vec![0; 4]));
+    }
+
+    /// Blocks 16 to 18, 20 and 24 to 26 carry the command.
+    #[test]
+    fn an_invalid_header_marks_its_command() {
+        let clean = lane(0, 3, 0x7F);
+        for (block, command) in [(15, 0x7F), (16, 0xBF), (20, 0xF7), (22, 0x7F), (26, 0xFE), (27, 0x7F)] {
+            let (_, lent) = received(0, &with_header(&clean, 32 + block, [true, true]));
+            assert_eq!((lent.commands[0], lent.commands[1]), (0x7F, command));
+        }
+    }
+
+    #[test]
+    fn a_wrong_mark_or_fixed_bit_changes_nothing() {
+        for mode in [0, 1] {
+            let clean = lane(mode, 4, 0);
+            for block in [22, 27, 31] {
+                let hit = with_header(&clean, 32 * 2 + block, [false, false]);
+                assert_eq!(received(mode, &hit), received(mode, &clean));
+            }
+        }
+    }
+
+    #[test]
+    fn a_lane_cut_anywhere_releases_the_same() {
+        let mut lane = lane(1, 5, 0);
+        flip(&mut lane, &[5, 9, 13]);
+        let (whole, all) = received(1, &lane);
+        for cut in 0..=5 {
+            let mut first = Lent::room_for(5);
+            let head = receive(1, Receiver::fresh(), &lane[..264 * cut], &mut first);
+            let mut second = Lent::room_for(5);
+            let tail = receive(1, head.state, &lane[264 * cut..], &mut second);
+            assert_eq!((head.count, head.count + tail.count), (cut.saturating_sub(1), 4));
+            assert_eq!(tail.state, whole.state);
+            let octets = [&first.octets[..256 * head.count], &second.octets[..256 * tail.count]].concat();
+            let statuses = [&first.statuses[..head.count], &second.statuses[..tail.count]].concat();
+            assert_eq!((&octets[..], &statuses[..]), (&all.octets[..1024], &all.statuses[..4]));
+        }
+    }
+
+    fn refusal_of(mode: u8, state: Receiver, lane: usize, lent: Lent) -> u8 {
+        let mut exit = lent.clone();
+        let received = receive(mode, state.clone(), &vec![0; lane], &mut exit);
+        if received.refusal != 0 {
+            assert_eq!(exit, lent);
+            assert_eq!(received, Received { refusal: received.refusal, count: 0, state });
+        }
+        received.refusal
+    }
+
+    #[test]
+    fn refusals_of_states() {
+        let check = |mode, state, refusal| assert_eq!(refusal_of(mode, state, 0, Lent::room_for(0)), refusal);
+        let waiting = || Receiver { waiting: true, octets: [9; 256], history: 5, trusted: true, command: 0 };
+        check(2, waiting(), 1);
+        check(0, waiting(), 0);
+        check(0, Receiver { history: (1 << 58) - 1, ..waiting() }, 0);
+        check(0, Receiver { history: 1 << 58, ..waiting() }, 3);
+        check(0, Receiver { command: 255, ..waiting() }, 0);
+        check(0, Receiver { command: 256, ..waiting() }, 3);
+        check(1, Receiver { command: 1, ..waiting() }, 3);
+        check(0, Receiver { history: 1, ..Receiver::fresh() }, 3);
+        check(0, Receiver { command: 1, ..Receiver::fresh() }, 3);
+        check(0, Receiver { trusted: true, ..Receiver::fresh() }, 3);
+        let mut octets = [0; 256];
+        octets[255] = 1;
+        check(1, Receiver { octets, ..Receiver::fresh() }, 3);
+    }
+
+    #[test]
+    fn refusals_of_sizes() {
+        let waiting = || Receiver { waiting: true, ..Receiver::fresh() };
+        assert_eq!([263, 264, 265].map(|lane| refusal_of(0, Receiver::fresh(), lane, Lent::room_for(0))), [4, 0, 4]);
+        assert_eq!(refusal_of(0, Receiver::fresh(), 264 * 240, Lent::room_for(239)), 0);
+        assert_eq!(refusal_of(0, Receiver::fresh(), 264 * 240, Lent::room_for(238)), 7);
+        assert_eq!(refusal_of(0, Receiver::fresh(), 264 * 241, Lent::room_for(0)), 5);
+        assert_eq!(refusal_of(0, waiting(), 0, Lent::room_for(0)), 0);
+        assert_eq!(refusal_of(0, waiting(), 264, Lent::room_for(0)), 7);
+        let room = || Lent::room_for(1);
+        assert_eq!(refusal_of(0, waiting(), 264, room()), 0);
+        assert_eq!(refusal_of(0, waiting(), 264, Lent { octets: vec![0; 255], ..room() }), 7);
+        assert_eq!(refusal_of(0, waiting(), 264, Lent { statuses: vec![], ..room() }), 7);
+        assert_eq!(refusal_of(0, waiting(), 264, Lent { commands: vec![], ..room() }), 7);
+        assert_eq!(refusal_of(0, waiting(), 264, Lent { places: vec![], ..room() }), 7);
+        assert_eq!(refusal_of(0, waiting(), 264, Lent { patterns: vec![], ..room() }), 7);
+    }
+
+    #[test]
+    fn the_lowest_number_wins() {
+        let bad = || Receiver { history: 1, ..Receiver::fresh() };
+        assert_eq!(refusal_of(2, bad(), 1, Lent::room_for(0)), 1);
+        assert_eq!(refusal_of(1, bad(), 1, Lent::room_for(0)), 3);
+        assert_eq!(refusal_of(1, Receiver::fresh(), 264 * 241 + 1, Lent::room_for(0)), 4);
+        assert_eq!(refusal_of(1, Receiver::fresh(), 264 * 241, Lent::room_for(0)), 5);
+    }
+}

@@ -1,0 +1,176 @@
+//! The sender, bit by bit (document 01, "From octets to lane bits" and "Numbers of refusal"). The parity in a sync word
+//! belongs to the multiblock before it; the end mark is 1 in the last of E multiblocks.
+
+use crate::bits;
+use crate::frame;
+use crate::mode::{is_extent, mode, Mode, LANE_OCTETS, MOST_MULTIBLOCKS, USER_OCTETS};
+use crate::polynomial::Polynomial;
+use crate::scrambler::{Scrambler, HISTORY_BITS};
+use crate::sync::Fields;
+
+#[derive(Clone, Copy, Debug, PartialEq)]
+pub struct Sender {
+    pub history: u64,
+    pub parity: u32,
+    pub number: u32,
+}
+
+#[derive(Debug, PartialEq)]
+pub struct Sent {
+    pub refusal: u8,
+    /// Multiblocks sent.
+    pub count: usize,
+    pub state: Sender,
+}
+
+impl Sender {
+    pub fn fresh() -> Sender {
+        Sender { history: 0, parity: 0, number: 0 }
+    }
+
+    fn is_in_range(self, mode: &Mode, e: u32) -> bool {
+        self.history >> HISTORY_BITS == 0 && self.parity >> mode.code.width() == 0 && self.number < e
+    }
+
+    /// The state after a multiblock, and its lane bits.
+    fn send_one(self, mode: &Mode, e: u32, user: &[u8], command: u32) -> (Sender, Vec<bool>) {
+        let mut scrambler = Scrambler::after(self.history);
+        let sent = scrambler.scramble(user);
+        let word = mode.layout.word(Fields { parity: self.parity, command, mark: self.number == e - 1 });
+        let shifted = Polynomial::of_bits(&sent).times_power(mode.code.width());
+        let after = Sender {
+            history: scrambler.history(),
+            parity: mode.code.remainder(&shifted),
+            number: (self.number + 1) % e,
+        };
+        (after, frame::lane_bits(word, &sent))
+    }
+}
+
+/// The lowest number of refusal that applies, or 0.
+fn refusal(number: u8, e: u32, state: Sender, user: &[u8], commands: &[u32], lane: &[u8]) -> u8 {
+    let Some(mode) = mode(number) else { return 1 };
+    let multiblocks = user.len() / USER_OCTETS;
+    let refused = [
+        (2, !is_extent(e)),
+        (3, !state.is_in_range(mode, e)),
+        (4, !user.len().is_multiple_of(USER_OCTETS)),
+        (5, multiblocks > MOST_MULTIBLOCKS),
+        (6, commands.len() != multiblocks || commands.iter().any(|command| *command > mode.highest_command)),
+        (7, lane.len() < LANE_OCTETS * multiblocks),
+    ];
+    refused.iter().find(|(_, applies)| *applies).map_or(0, |(number, _)| *number)
+}
+
+/// Sends 256 user octets for each command, over the start of the lane's octets.
+pub fn send(number: u8, e: u32, state: Sender, user: &[u8], commands: &[u32], lane: &mut [u8]) -> Sent {
+    let refusal = refusal(number, e, state, user, commands, lane);
+    let (0, Some(mode)) = (refusal, mode(number)) else { return Sent { refusal, count: 0, state } };
+    let mut state = state;
+    for (k, (user, command)) in user.chunks(USER_OCTETS).zip(commands).enumerate() {
+        let (after, sent) = state.send_one(mode, e, user, *command);
+        lane[LANE_OCTETS * k..][..LANE_OCTETS].copy_from_slice(&bits::octets(&sent));
+        state = after;
+    }
+    Sent { refusal: 0, count: commands.len(), state }
+}
+
+#[cfg(test)]
+mod tests {
+    use super::{send, Sender, Sent};
+    use crate::bits;
+    use crate::code;
+    use crate::frame::Multiblock;
+    use crate::sync;
+
+    fn refusal_of(number: u8, e: u32, state: Sender, user: usize, commands: &[u32], lane: usize) -> u8 {
+        let mut lent = vec![0xA5; lane];
+        let sent = send(number, e, state, &vec![1; user], commands, &mut lent);
+        if sent.refusal != 0 {
+            assert_eq!(sent, Sent { refusal: sent.refusal, count: 0, state });
+            assert_eq!(lent, vec![0xA5; lane]);
+        }
+        sent.refusal
+    }
+
+    fn multiblocks(lane: &[u8]) -> Vec<Multiblock> {
+        lane.chunks(264).map(|octets| Multiblock::of(&bits::of_octets(octets))).collect()
+    }
+
+    #[test]
+    fn a_word_carries_the_parity_of_the_one_before() {
+        let mut lane = vec![0; 528];
+        let sent = send(0, 2, Sender::fresh(), &[7; 512], &[0x41, 0x7F], &mut lane);
+        let [first, second] = &multiblocks(&lane)[..] else { panic!() };
+        assert_eq!(first.word, sync::CRC12.word(sync::Fields { parity: 0, command: 0x41, mark: false }));
+        assert_eq!(sync::CRC12.parity(second.word), code::CRC12.parity(&bits::octets(&first.data)));
+        assert_eq!(second.word >> 9 & 1, 1);
+        assert_eq!(sent.state.parity, code::CRC12.parity(&bits::octets(&second.data)));
+        assert_eq!(sent.state.history, bits::number(&second.data[1990..]));
+        assert_eq!((sent.refusal, sent.count, sent.state.number), (0, 2, 0));
+    }
+
+    #[test]
+    fn the_end_mark_is_in_every_last() {
+        let mut lane = vec![0; 264 * 7];
+        let sent = send(1, 3, Sender { number: 1, ..Sender::fresh() }, &[0; 256 * 7], &[0; 7], &mut lane);
+        let marks: Vec<u32> = multiblocks(&lane).iter().map(|multiblock| multiblock.word >> 9 & 1).collect();
+        assert_eq!((marks, sent.state.number), (vec![0, 1, 0, 0, 1, 0, 0], 2));
+    }
+
+    #[test]
+    fn a_lane_cut_into_calls_is_the_same() {
+        let user: Vec<u8> = (0..1024_u32).map(|k| (k * k / 3) as u8).collect();
+        let mut whole = vec![0; 1056];
+        let all = send(1, 3, Sender::fresh(), &user, &[0; 4], &mut whole);
+        let mut parts = vec![0; 1056];
+        let first = send(1, 3, Sender::fresh(), &user[..256], &[0], &mut parts);
+        let none = send(1, 3, first.state, &[], &[], &mut []);
+        let rest = send(1, 3, none.state, &user[256..], &[0; 3], &mut parts[264..]);
+        assert_eq!((none.count, none.state), (0, first.state));
+        assert_eq!((parts, rest.state), (whole, all.state));
+    }
+
+    #[test]
+    fn octets_past_the_end_keep_their_values() {
+        let mut lane = vec![0xA5; 300];
+        send(0, 1, Sender::fresh(), &[0; 256], &[0], &mut lane);
+        assert_eq!(lane[264..], [0xA5; 36]);
+    }
+
+    #[test]
+    fn refusals_at_their_edges() {
+        let fresh = Sender::fresh();
+        assert_eq!(refusal_of(2, 1, fresh, 0, &[], 0), 1);
+        assert_eq!([0, 1, 256, 257].map(|e| refusal_of(0, e, fresh, 0, &[], 0)), [2, 0, 0, 2]);
+        for (history, refused) in [((1 << 58) - 1, 0), (1 << 58, 3)] {
+            assert_eq!(refusal_of(0, 1, Sender { history, ..fresh }, 0, &[], 0), refused);
+        }
+        for (number, parity, refused) in [(0, 0xFFF, 0), (0, 0x1000, 3), (1, 0x3FF_FFFF, 0), (1, 0x400_0000, 3)] {
+            assert_eq!(refusal_of(number, 1, Sender { parity, ..fresh }, 0, &[], 0), refused);
+        }
+        for (e, number, refused) in [(1, 0, 0), (1, 1, 3), (256, 255, 0), (256, 256, 3)] {
+            assert_eq!(refusal_of(0, e, Sender { number, ..fresh }, 0, &[], 0), refused);
+        }
+        assert_eq!([255, 256, 257].map(|user| refusal_of(0, 1, fresh, user, &[0], 264)), [4, 0, 4]);
+        assert_eq!(refusal_of(0, 1, fresh, 256 * 240, &[0; 240], 264 * 240), 0);
+        assert_eq!(refusal_of(0, 1, fresh, 256 * 241, &[0; 241], 264 * 241), 5);
+        assert_eq!(
+            [&[][..], &[127], &[128], &[0, 0]].map(|list| refusal_of(0, 1, fresh, 256, list, 264)),
+            [6, 0, 6, 6]
+        );
+        assert_eq!([0, 1].map(|command| refusal_of(1, 1, fresh, 256, &[command], 264)), [0, 6]);
+        assert_eq!([263, 264].map(|lane| refusal_of(0, 1, fresh, 256, &[0], lane)), [7, 0]);
+    }
+
+    #[test]
+    fn the_lowest_number_wins() {
+        let bad = Sender { history: 1 << 58, ..Sender::fresh() };
+        assert_eq!(refusal_of(2, 0, bad, 1, &[128], 0), 1);
+        assert_eq!(refusal_of(1, 0, bad, 1, &[128], 0), 2);
+        assert_eq!(refusal_of(1, 1, bad, 1, &[128], 0), 3);
+        assert_eq!(refusal_of(1, 1, Sender::fresh(), 256 * 241 + 1, &[128], 0), 4);
+        assert_eq!(refusal_of(1, 1, Sender::fresh(), 256 * 241, &[128], 0), 5);
+        assert_eq!(refusal_of(1, 1, Sender::fresh(), 256, &[1], 0), 6);
+    }
+}
