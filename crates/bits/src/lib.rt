@@ -36,14 +36,16 @@ pub fn octet_at(octets: &[u8], at: usize) -> u8
     if at < octets.len() { octets[at] } else { 0 }
 }
 
-// The word across the end, octet by octet.
+// A word across the end, octet by octet.
 fn last_word(octets: &[u8], at: usize) -> u64
-    requires { ⌜ at < length (now octets) ⌝ }
+    requires { ⌜ length (now octets) < at + 8 ⌝ }
     ensures { λ r. ⌜ r ≡ number (bitAt (now (octets .entry))) (8 * at) 64 ⌝ }
 {
     let mut word: u64 = 0;
-    for i in 0..8usize {
-        word = (word << 8) | wide(octet_at(octets, at + i));
+    let mut i: usize = 0;
+    while at + i < octets.len() {
+        word = word | (wide(octets[at + i]) << (56 - 8 * i));
+        i = i + 1;
     }
     word
 }
@@ -52,13 +54,11 @@ fn last_word(octets: &[u8], at: usize) -> u64
 pub fn word_at(octets: &[u8], at: usize) -> u64
     ensures { λ r. ⌜ r ≡ number (bitAt (now (octets .entry))) (8 * at) 64 ⌝ }
 {
-    if 8 <= octets.len() {
-        if at <= octets.len() - 8 {
-            return whole_word(octets, at);
-        }
+    if octets.len() < 8 {
+        return last_word(octets, at);
     }
-    if octets.len() <= at {
-        return 0;
+    if at <= octets.len() - 8 {
+        return whole_word(octets, at);
     }
     last_word(octets, at)
 }

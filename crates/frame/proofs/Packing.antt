@@ -81,20 +81,22 @@ module _ (f : ℕ → ℕ) (bits : (k : ℕ) → f k < 2) where
 
 -- ---- reading
 
--- word << t | octet >> (8 - t): 64 bits that begin t bits into an octet
-pub word-and-octet : (octets : List ℕ) (at t k word octet : ℕ) → word ≡ number (bitAt octets) (8 * at) 64 → octet ≡ getD octets (at + 8) 0 → octet < 256 → k ≡ 8 * at + t → t ≤ 8
-    → bitOr (word * 2 ^ t % 2 ^ 64) (octet / 2 ^ (8 - t)) ≡ number (bitAt octets) k 64
-word-and-octet octets at t k word octet ew eo h ek ht =
-    let f = bitAt octets in
-    let bits = bitAt-lt octets in
-    let lower : octet / 2 ^ (8 - t) ≡ number f (k + (64 - t)) t =
-    ap (λ (x : ℕ). x / 2 ^ (8 - t)) (eo ∙ sym (number-octet octets (at + 8) (subst (λ (x : ℕ). x < 256) eo h)) ∙ ap (number f (8 * (at + 8))) {x = 8} {y = t + (8 - t)} (omega arith) ∙ number-split f (8 * (at + 8)) t (8 - t))
-    ∙ high (number f (8 * (at + 8)) t) (8 - t) (number-lt f bits (8 * (at + 8) + t) (8 - t))
-    ∙ ap (λ (x : ℕ). number f x t) (omega arith) in
-    ap₂ bitOr (shift-left word t (omega arith) ∙ ap (λ (x : ℕ). x * 2 ^ t) (last-bits f bits (8 * at) k (64 - t) word (omega arith) (omega arith) ew)) lower
-    ∙ or-shifted (number f k (64 - t)) t (number f (k + (64 - t)) t) (number-lt f bits (k + (64 - t)) t)
-    ∙ sym (number-split f k (64 - t) t)
-    ∙ ap (number f k) (omega arith)
+-- word << t + octet >> (8 - t): 64 bits that begin t bits into an octet
+module _ (octets : List ℕ) (at t k word : ℕ) (ew : word ≡ number (bitAt octets) (8 * at) 64) (h : getD octets (at + 8) 0 < 256) (ek : k ≡ 8 * at + t) (ht : t ≤ 8) where
+  pub word-and-octet : word * 2 ^ t % 2 ^ 64 + getD octets (at + 8) 0 / 2 ^ (8 - t) ≡ number (bitAt octets) k 64
+  word-and-octet =
+      let f = bitAt octets in
+      let bits = bitAt-lt octets in
+      let lower : getD octets (at + 8) 0 / 2 ^ (8 - t) ≡ number f (k + (64 - t)) t =
+      ap (λ (x : ℕ). x / 2 ^ (8 - t)) (sym (number-octet octets (at + 8) h) ∙ ap (number f (8 * (at + 8))) {x = 8} {y = t + (8 - t)} (omega arith) ∙ number-split f (8 * (at + 8)) t (8 - t))
+      ∙ high (number f (8 * (at + 8)) t) (8 - t) (number-lt f bits (8 * (at + 8) + t) (8 - t))
+      ∙ ap (λ (x : ℕ). number f x t) (omega arith) in
+      ap₂ _+_ (shift-left word t (omega arith) ∙ ap (λ (x : ℕ). x * 2 ^ t) (last-bits f bits (8 * at) k (64 - t) word (omega arith) (omega arith) ew)) lower
+      ∙ sym (number-split f k (64 - t) t)
+      ∙ ap (number f k) (omega arith)
+
+  pub word-and-octet-lt : word * 2 ^ t % 2 ^ 64 + getD octets (at + 8) 0 / 2 ^ (8 - t) < 2 ^ 64
+  word-and-octet-lt = subst (λ (x : ℕ). x < 2 ^ 64) (sym word-and-octet) (number-lt (bitAt octets) (bitAt-lt octets) k 64)
 
 -- word >> (62 - t) & 3: two bits that stand t bits into a word
 pub two-bits : (word t : ℕ) → t ≤ 62 → bitAnd (word / 2 ^ (62 - t)) 3 ≡ number (digit 64 word) t 2

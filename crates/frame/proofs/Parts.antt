@@ -1,10 +1,10 @@
 -- What a refusal says of the parts of buffers, and what is left then: document 01, "Numbers of refusal". Assumes nothing.
-use mathlib.Core.Path.{_≡_, refl, ap, _∙_}
-use mathlib.Core.Bool.{Bool, true, false, not}
+use mathlib.Core.Path.{_≡_, ap, _∙_}
+use mathlib.Core.Bool.{Bool, not}
 use mathlib.Core.List.{List}
 use Prim.Native.Nat.{ℕ, _≤_, _<_}
 use native.Mathlib.Omega.{arith}
-use borrow.Author.Tests.{ltb-false, eq-eqb, ne-eqb}
+use borrow.Author.Tests.{eq-eqb, ne-eqb}
 use lib.Dec.{T, ltb, lt→ltb, ltb→lt, not-T}
 use lib.ListN.{length}
 use Rattle.bits.specs.Choice.{pick}
@@ -27,18 +27,6 @@ module _ (n : ℕ) (given : List ℕ) (m : ℕ) (lent : List ℕ) where
   pub not-refused : n ≤ length given → m ≤ length lent → refusalOf n given m lent ≡ 0
   unfolding refusalOf
   not-refused g h = pick-false (ltb (length given) n) _ _ (enough given n g) ∙ pick-false (ltb (length lent) m) _ _ (enough lent m h)
-
-neither : (s t : Bool) → _≡_ {A = ℕ} (pick s 4 (pick t 7 0)) 0 → (s ≡ false) × (t ≡ false)
-neither true t e = absurd (omega arith)
-neither false true e = absurd (omega arith)
-neither false false e = (refl, refl)
-
--- where nothing is refused, both parts are long enough
-pub long-enough : (n : ℕ) (given : List ℕ) (m : ℕ) (lent : List ℕ) → refusalOf n given m lent ≡ 0 → (n ≤ length given) × (m ≤ length lent)
-unfolding refusalOf
-long-enough n given m lent e =
-    let tests = neither (ltb (length given) n) (ltb (length lent) m) e in
-    (ltb-false (length given) n (tests .0), ltb-false (length lent) m (tests .1))
 
 -- what is refused is left as it was
 pub untouched : (refusal : ℕ) (answer lent : List ℕ) → (refusal ≡ 0 → ⊥) → written refusal answer lent ≡ lent

@@ -2,26 +2,13 @@
 // octet: shifts and masks gather its header and its 64 data bits across octet edges.
 ghost use mathlib.Core.Path.{_≡_};
 ghost use Prim.Native.Nat.{_+_, _-_, _*_, _/_, _%_, _≤_, _<_};
-ghost use lib.Dec.{eqb, ltb};
+ghost use lib.Dec.{eqb};
 ghost use lib.ListN.{length};
 ghost use Rattle.bits.specs.Choice.{pick};
 ghost use Rattle.bits.specs.Order.{bitAt, run, digit, number, laidAt};
 ghost use Rattle.frame.specs.Headers.{carries, spoilt, headerOf};
 ghost use Rattle.frame.specs.Lane.{multiblock, multiblockBit, dataOctets, syncBit, spoiltBit};
 ghost use Rattle.frame.specs.Parts.{refusalOf, written};
-
-// 4 where fewer octets are given than a multiblock takes, 7 where fewer are lent than it fills, or 0.
-fn refusal_of(given: usize, takes: usize, lent: usize, fills: usize) -> u8
-    ensures { λ r. ⌜ r ≡ pick (ltb given takes) 4 (pick (ltb lent fills) 7 0) ⌝ }
-{
-    if given < takes {
-        return 4;
-    }
-    if lent < fills {
-        return 7;
-    }
-    0
-}
 
 // The header that carries a bit of the sync word.
 fn header_of(sync: u32, block: usize) -> u64
@@ -69,9 +56,11 @@ pub fn write(sync: u32, octets: &[u8], lane: &mut [u8]) -> u8
     ensures { λ r. ⌜ r ≡ refusalOf 256 (now (octets .entry)) 264 (now (lane .entry)) ⌝ }
     ensures { λ r. ⌜ now (lane .exit) ≡ written r (multiblock 0 sync (now (octets .entry))) (now (lane .entry)) ⌝ }
 {
-    let refusal = refusal_of(octets.len(), 256, lane.len(), 264);
-    if refusal != 0 {
-        return refusal;
+    if octets.len() < 256 {
+        return 4;
+    }
+    if lane.len() < 264 {
+        return 7;
     }
     for four in 0..8usize {
         put_four(sync, octets, four, lane);
@@ -104,7 +93,7 @@ fn invalid(header: u8) -> u32
     if header == 2 { 0 } else { 1 }
 }
 
-// A block's 64 data bits, of the same word and the octet after it.
+// A block's 64 data bits, of the same word and the octet after it. The sum, where `|` would do, lets the compiler store them at once.
 fn data_at(word: u64, lane: &[u8], block: usize) -> u64
     requires { ⌜ (block < 32) × (264 ≤ length (now lane)) ⌝ }
     requires { ⌜ word ≡ number (bitAt (now lane)) (8 * (66 * block / 8)) 64 ⌝ }
@@ -112,7 +101,7 @@ fn data_at(word: u64, lane: &[u8], block: usize) -> u64
 {
     let before = 66 * block % 8 + 2;
     let ninth = lane[66 * block / 8 + 8] as u64;
-    (word << before) | (ninth >> (8 - before))
+    (word << before) + (ninth >> (8 - before))
 }
 
 // A refusal, or 0 with the sync bits of the multiblock read and a 1 for each header that was invalid. Position 0 is the highest bit.
@@ -129,10 +118,16 @@ pub fn read(lane: &[u8], octets: &mut [u8]) -> Headers
     ensures { λ r. ⌜ r .bad ≡ pick (eqb (r .refusal) 0) (number (spoiltBit 0 (bitAt (now (lane .entry))) 0) 0 32) 0 ⌝ }
     ensures { λ r. ⌜ now (octets .exit) ≡ written (r .refusal) (dataOctets 0 (bitAt (now (lane .entry))) 0) (now (octets .entry)) ⌝ }
 {
-    let refusal = refusal_of(lane.len(), 264, octets.len(), 256);
-    if refusal != 0 {
+    if lane.len() < 264 {
         return Headers {
-            refusal,
+            refusal: 4,
+            bits: 0,
+            bad: 0,
+        };
+    }
+    if octets.len() < 256 {
+        return Headers {
+            refusal: 7,
             bits: 0,
             bad: 0,
         };

@@ -2,11 +2,9 @@
 -- Assumes nothing.
 use borrow.Author.Needs.{needs}
 use Prim.Native.Nat.{_+_, _-_, _*_, _/_, _%_}
-use mathlib.Core.Path.{refl}
 use native.Mathlib.Omega.{arith}
-use lib.ListN.{getD}
 use denote.Ref.{now}
-use Rattle.frame.proofs.Packing.{word-and-octet}
+use Rattle.frame.proofs.Packing.{word-and-octet, word-and-octet-lt}
 use Rattle.frame.proofs.multiblock.data_at.Statement.{statement}
 use Rattle.frame.proofs.multiblock.data_at.Tie as tie
 
@@ -37,11 +35,17 @@ sub-result c = search needs
 shr-result : tie.Need-shr-result
 shr-result c = search needs
 
+add-result : tie.Need-add-result
+add-result c =
+    let a = c .before .args in
+    let at = 66 * a .block / 8 in
+    record { fits = word-and-octet-lt (now (a .lane)) at (66 * a .block % 8 + 2) (66 * a .block + 2) (a .word) (c .before .pre .1) (omega (arith, c .shared-slice-known .given (at + 8))) (omega arith) (omega arith) }
+
 returns : tie.Need-returns
 returns c =
     let a = c .before .args in
     let at = 66 * a .block / 8 in
-    word-and-octet (now (a .lane)) at (66 * a .block % 8 + 2) (66 * a .block + 2) (a .word) (getD (now (a .lane)) (at + 8) 0) (c .before .pre .1) refl (omega (arith, c .shared-slice-known .given (at + 8))) (omega arith) (omega arith)
+    word-and-octet (now (a .lane)) at (66 * a .block % 8 + 2) (66 * a .block + 2) (a .word) (c .before .pre .1) (omega (arith, c .shared-slice-known .given (at + 8))) (omega arith) (omega arith)
 
 pub data-at-spec : {M : Type 1} → statement M
 data-at-spec =
@@ -56,4 +60,5 @@ data-at-spec =
     shl-result
     sub-result
     shr-result
+    add-result
     returns)

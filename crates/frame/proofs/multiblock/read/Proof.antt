@@ -3,54 +3,46 @@
 use borrow.Author.Needs.{needs}
 use Prim.Native.Nat.{ℕ, _-_, _*_, _≤_}
 use mathlib.Core.Path.{_≡_, refl, sym, ap, _∙_}
-use mathlib.Core.Bool.{Bool}
 use native.Mathlib.Omega.{arith}
-use borrow.Author.Tests.{ne-eqb}
 use lib.ListN.{length}
 use denote.Ref.{now}
-use Rattle.bits.specs.Choice.{pick}
 use Rattle.bits.specs.Order.{bitAt, digit, number, octetsOf, laid, laidAt}
 use Rattle.bits.proofs.Numbers.{bitAt-lt}
 use Rattle.bits.proofs.Laid.{laid-none, laid-word, length-laid-octets}
 use Rattle.frame.specs.Lane.{dataBit, syncBit, spoiltBit, dataOctets}
-use Rattle.frame.specs.Parts.{refusalOf, written}
+use Rattle.frame.specs.Parts.{written}
 use Rattle.frame.proofs.Lane.{dataBit-lt}
 use Rattle.frame.proofs.Packing.{header-read, data-read, sync-more, spoilt-more}
-use Rattle.frame.proofs.Parts.{long-enough, untouched}
+use Rattle.frame.proofs.Parts.{few-given, few-lent, not-refused}
 use Rattle.frame.proofs.multiblock.read.Statement.{statement}
 use Rattle.frame.proofs.multiblock.read.Tie as tie
 
 abbrev Inv-loop : tie.InvT-loop
-Inv-loop lane octets₀ refusal bits₀ bad₀ block₀ octets bits bad block =
+Inv-loop lane octets₀ bits₀ bad₀ block₀ octets bits bad block =
     (block ≤ 32)
-    × (264 ≤ length lane)
-    × (256 ≤ length octets₀)
     × (bits ≡ number (syncBit 0 (bitAt lane) 0) 0 block)
     × (bad ≡ number (spoiltBit 0 (bitAt lane) 0) 0 block)
     × (octets ≡ laid (octetsOf (dataBit 0 (bitAt lane) 0) (8 * block)) octets₀)
 
 abbrev μ-loop : tie.MeasureT-loop
-μ-loop lane octets₀ refusal bits₀ bad₀ block₀ octets bits bad block = 32 - block
-
-refusal-of-requires : tie.Need-refusal-of-requires Inv-loop μ-loop
-refusal-of-requires c κs = search needs
+μ-loop lane octets₀ bits₀ bad₀ block₀ octets bits bad block = 32 - block
 
 returns : tie.Need-returns Inv-loop μ-loop
-unfolding refusalOf
+unfolding written
 returns c =
+    let a = c .before .before .before .args in
+    (sym (few-given 264 (now (a .lane)) 256 (now (a .octets)) (omega arith)), (refl, (refl, refl)))
+
+returns-2 : tie.Need-returns-2 Inv-loop μ-loop
+unfolding written
+returns-2 c =
     let a = c .before .before .before .before .args in
-    let refused = ne-eqb (c .before .refusal-of .result) 0 (c .if1 .taken) in
-    let lane = bitAt (now (a .lane)) in (
-      c .before .refusal-of .ensures,
-      (sym (ap (λ (t : Bool). pick t (number (syncBit 0 lane 0) 0 32) 0) refused), (sym (ap (λ (t : Bool). pick t (number (spoiltBit 0 lane 0) 0 32) 0) refused), sym (untouched (c .before .refusal-of .result) (dataOctets 0 lane 0) (now (a .octets)) (c .if1 .taken)))),
-    )
+    (sym (few-lent 264 (now (a .lane)) 256 (now (a .octets)) (omega arith) (omega arith)), (refl, (refl, refl)))
 
 loop-holds : tie.Need-loop-holds Inv-loop μ-loop
-unfolding refusalOf
 loop-holds c =
     let a = c .before .before .before .before .args in
-    let long = long-enough 264 (now (a .lane)) 256 (now (a .octets)) (sym (c .before .refusal-of .ensures) ∙ c .if1 .left) in
-    (search needs, long .0, long .1, unfold number in refl, unfold number in refl, laid-none (dataBit 0 (bitAt (now (a .lane))) 0) (now (a .octets)))
+    (search needs, unfold number in refl, unfold number in refl, laid-none (dataBit 0 (bitAt (now (a .lane))) 0) (now (a .octets)))
 
 mul-word-at : tie.Need-mul-word-at Inv-loop μ-loop
 mul-word-at c = search needs
@@ -90,12 +82,10 @@ loop-again c =
     let header = c .before .before .before .before .before .before .before .header-in in
     let is = header-read (bitAt octets) (bitAt-lt octets) (l .block) _ (c .before .before .before .before .before .before .before .before .word-at .result) (header .result) refl (c .before .before .before .before .before .before .before .before .word-at .ensures) (header .ensures) in (
       search needs,
-      l .inv .1,
-      l .inv .2,
-      sync-more (bitAt octets) (l .block) (header .result) (omega arith) is (l .bits) (c .before .before .before .before .before .before .carried .result) (l .inv .3) (c .before .before .before .before .before .before .carried .ensures),
-      spoilt-more (bitAt octets) (l .block) (header .result) (omega arith) is (l .bad) (c .before .before .before .before .before .invalid .result) (l .inv .4) (c .before .before .before .before .before .invalid .ensures),
+      sync-more (bitAt octets) (l .block) (header .result) (omega arith) is (l .bits) (c .before .before .before .before .before .before .carried .result) (l .inv .1) (c .before .before .before .before .before .before .carried .ensures),
+      spoilt-more (bitAt octets) (l .block) (header .result) (omega arith) is (l .bad) (c .before .before .before .before .before .invalid .result) (l .inv .2) (c .before .before .before .before .before .invalid .ensures),
       c .before .before .put-word .ensures
-          ∙ ap (laidAt (octetsOf (digit 64 (block .result)) 8) (8 * l .block)) (l .inv .5)
+          ∙ ap (laidAt (octetsOf (digit 64 (block .result)) 8) (8 * l .block)) (l .inv .3)
           ∙ laid-word (dataBit 0 (bitAt octets) 0) (dataBit-lt 0 (bitAt octets) (bitAt-lt octets) 0) (l .block) (block .result) (now (c .before .before .before .before .before .before .before .before .before .before .before .before .before .before .before .args .octets)) (omega arith)
           (block .ensures ∙ data-read (bitAt octets) (l .block)),
     )
@@ -105,17 +95,17 @@ same-length c =
     let a = c .before .before .before .before .before .before .args in
     let l = c .before .loop in
     let f = dataBit 0 (bitAt (now (a .lane))) 0 in
-    ap length (l .inv .5) ∙ length-laid-octets f (8 * l .block) (now (a .octets)) (omega arith)
+    ap length (l .inv .3) ∙ length-laid-octets f (8 * l .block) (now (a .octets)) (omega arith)
 
-returns-2 : tie.Need-returns-2 Inv-loop μ-loop
-unfolding refusalOf written dataOctets
-returns-2 c =
+returns-3 : tie.Need-returns-3 Inv-loop μ-loop
+unfolding written dataOctets
+returns-3 c =
     let a = c .before .before .before .before .before .before .args in
     let l = c .before .loop in
     let e : l .block ≡ 32 = omega arith in
     let lane = bitAt (now (a .lane)) in (
-      sym (c .before .before .if1 .left) ∙ c .before .before .before .refusal-of .ensures,
-      (l .inv .3 ∙ ap (number (syncBit 0 lane 0) 0) e, (l .inv .4 ∙ ap (number (spoiltBit 0 lane 0) 0) e, l .inv .5 ∙ ap (λ (x : ℕ). laid (octetsOf (dataBit 0 lane 0) (8 * x)) (now (a .octets))) e)),
+      sym (not-refused 264 (now (a .lane)) 256 (now (a .octets)) (omega arith) (omega arith)),
+      (l .inv .1 ∙ ap (number (syncBit 0 lane 0) 0) e, (l .inv .2 ∙ ap (number (spoiltBit 0 lane 0) 0) e, l .inv .3 ∙ ap (λ (x : ℕ). laid (octetsOf (dataBit 0 lane 0) (8 * x)) (now (a .octets))) e)),
     )
 
 pub read-spec : {M : Type 1} → statement M
@@ -124,8 +114,8 @@ read-spec =
     (tie.spec
     Inv-loop
     μ-loop
-    refusal-of-requires
     returns
+    returns-2
     loop-holds
     mul-word-at
     word-at-requires
@@ -139,4 +129,4 @@ read-spec =
     loop-less
     loop-again
     same-length
-    returns-2)
+    returns-3)
