@@ -35,7 +35,7 @@ laid-all new old h = ap (λ (x : List ℕ). new ++ x) (drop-of-length-le old h) 
 
 -- ---- where they fit, and where not
 
-fits : (new : List ℕ) (at : ℕ) (old : List ℕ) → at + length new ≤ length old → laidAt new at old ≡ take at old ++ new ++ drop (at + length new) old
+pub fits : (new : List ℕ) (at : ℕ) (old : List ℕ) → at + length new ≤ length old → laidAt new at old ≡ take at old ++ new ++ drop (at + length new) old
 unfolding laidAt
 fits new at old h = pick-true (leb (at + length new) (length old)) _ _ (le→leb (at + length new) (length old) h)
 

@@ -8,3 +8,4 @@ pub mod Words
 pub mod Tests
 pub mod Laid
 pub mod Octets
+pub mod Writing

@@ -47,6 +47,10 @@ module _ (f : ℕ → ℕ) where
     pub number-low : (k a b : ℕ) → number f k (a + b) % 2 ^ b ≡ number f (k + a) b
     number-low k a b = ap (λ (x : ℕ). x % 2 ^ b) (number-split k a b) ∙ low (number f k a) b (number-lt (k + a) b)
 
+    -- and its high bits the start
+    pub number-high : (k a b : ℕ) → number f k (a + b) / 2 ^ b ≡ number f k a
+    number-high k a b = ap (λ (x : ℕ). x / 2 ^ b) (number-split k a b) ∙ high (number f k a) b (number-lt (k + a) b)
+
     -- digit j of the number that a run writes is bit j of the run
     pub digit-number : (k n j : ℕ) → j < n → digit n (number f k n) j ≡ f (k + j)
     unfolding digit number

@@ -1,12 +1,20 @@
 // Damage to a lane of n multiblocks, drawn by its kind. The second program's `damaged` says what each kind is.
 use crate::draw;
-ghost use Prim.Native.Nat.{_*_, _<_, _≤_};
+ghost use Prim.Native.Nat.{_*_, _+_, _<_, _≤_};
 ghost use lib.ListN.{length};
 
 fn flip(bit: usize, lane: &mut [u8])
     requires { ⌜ bit < 8 * length (now lane) ⌝ }
 {
     lane[bit / 8] = lane[bit / 8] ^ (128u8 >> (bit % 8));
+}
+
+fn flip_if(wanted: bool, bit: usize, lane: &mut [u8])
+    requires { ⌜ bit < 8 * length (now lane) ⌝ }
+{
+    if wanted {
+        flip(bit, lane);
+    }
 }
 
 // Each bit from one to before another, if 1 is drawn for it.
@@ -16,9 +24,7 @@ fn between(x: u64, from: usize, to: usize, lane: &mut [u8]) -> u64
     let mut x = x;
     for bit in from..to {
         x = draw::next(x);
-        if x / 2048 % 2 == 1 {
-            flip(bit, lane);
-        }
+        flip_if(x / 2048 % 2 == 1, bit, lane);
     }
     x
 }
@@ -107,20 +113,30 @@ fn carries_parity(mode: u8, block: usize) -> bool {
     block < 16 && block % 4 != 3
 }
 
+// Both bits of a block's header, if it carries a bit of the parity.
+fn parity(mode: u8, block: usize, lane: &mut [u8])
+    requires { ⌜ block < 224 ⌝ }
+    requires { ⌜ 66 * block + 1 < 8 * length (now lane) ⌝ }
+{
+    if carries_parity(mode, block % 32) {
+        flip(66 * block, lane);
+        flip(66 * block + 1, lane);
+    }
+}
+
 fn parities(mode: u8, n: usize, lane: &mut [u8])
     requires { ⌜ (1 ≤ n) × (n ≤ 7) ⌝ }
     requires { ⌜ 264 * n ≤ length (now lane) ⌝ }
 {
     for block in 32 * (n / 2)..32 * n {
-        if carries_parity(mode, block % 32) {
-            flip(66 * block, lane);
-            flip(66 * block + 1, lane);
-        }
+        parity(mode, block, lane);
     }
 }
 
 // A burst that the mode finds, or mends.
-fn limit(mode: u8) -> u64 {
+fn limit(mode: u8) -> u64
+    ensures { λ r. ⌜ (1 ≤ r) × (r ≤ 14) ⌝ }
+{
     if mode == 1 {
         return 9;
     }

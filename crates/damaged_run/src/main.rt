@@ -5,6 +5,7 @@ mod digest;
 mod draw;
 mod text;
 
+use receiver::Received;
 use receiver::Receiver;
 use sender::Sender;
 ghost use Prim.Native.Nat.{_*_, _<_, _≤_};
@@ -15,8 +16,58 @@ struct Ran {
     state: Receiver,
 }
 
+// One call: the multiblocks of the lane from one to before another; what it releases goes after the first so many.
+fn receive_part(
+    mode: u8,
+    state: Receiver,
+    at: usize,
+    end: usize,
+    count: usize,
+    lane: &[u8],
+    octets: &mut [u8],
+    statuses: &mut [u8],
+    commands: &mut [u32],
+    places: &mut [u16],
+    patterns: &mut [u16],
+) -> Received
+    requires { ⌜ (at ≤ end) × ((end ≤ 7) × (count ≤ 7)) ⌝ }
+    requires { ⌜ 264 * end ≤ length (now lane) ⌝ }
+    requires { ⌜ (256 * count ≤ length (now octets)) × ((count ≤ length (now statuses)) × (count ≤ length (now commands))) ⌝ }
+    requires { ⌜ (count ≤ length (now places)) × (count ≤ length (now patterns)) ⌝ }
+{
+    receiver::receive(
+        mode,
+        state,
+        &lane[264 * at..264 * end],
+        &mut octets[256 * count..],
+        &mut statuses[count..],
+        &mut commands[count..],
+        &mut places[count..],
+        &mut patterns[count..],
+    )
+}
+
+// Where a call of drawn size ends.
+fn end_of(x: u64, at: usize, n: usize) -> usize
+    requires { ⌜ at ≤ n ⌝ }
+    ensures { λ r. ⌜ (at ≤ r) × (r ≤ n) ⌝ }
+{
+    at + draw::size(x, n - at)
+}
+
+// A count with what a call released. No call releases more than was received.
+fn more(count: usize, released: usize, end: usize) -> usize
+    requires { ⌜ count ≤ end ⌝ }
+    ensures { λ r. ⌜ r ≤ end ⌝ }
+{
+    if released > end - count {
+        return end;
+    }
+    count + released
+}
+
 // All n multiblocks, in calls of drawn sizes; what each call releases goes after what those before it did. No case takes more than
-// 64 calls, and no call releases more than was received.
+// 64 calls.
 fn run(
     mode: u8,
     x: u64,
@@ -44,23 +95,22 @@ fn run(
             return Ran { count, state };
         }
         x = draw::next(x);
-        let end = at + draw::size(x, n - at);
-        let received = receiver::receive(
+        let end = end_of(x, at, n);
+        let received = receive_part(
             mode,
             state,
-            &lane[264 * at..264 * end],
-            &mut octets[256 * count..],
-            &mut statuses[count..],
-            &mut commands[count..],
-            &mut places[count..],
-            &mut patterns[count..],
+            at,
+            end,
+            count,
+            lane,
+            octets,
+            statuses,
+            commands,
+            places,
+            patterns,
         );
         state = received.state;
-        let released = received.count;
-        if released > end - count {
-            return Ran { count, state };
-        }
-        count += released;
+        count = more(count, received.count, end);
         at = end;
         calls += 1;
     }
@@ -83,13 +133,17 @@ fn write_releases(count: usize, statuses: &[u8], commands: &[u32], places: &[u16
     }
 }
 
+fn write_octets(octets: &[u8]) {
+    text::write_digest(digest::with_octets(digest::EMPTY, octets.len(), octets));
+}
+
 fn write_state(state: Receiver) {
     text::write_number(b" ", state.waiting as u64);
     text::write_number(b" ", state.history);
     text::write_number(b" ", state.trusted as u64);
     text::write_number(b" ", state.command as u64);
     let octets = state.octets;
-    text::write_digest(digest::with_octets(digest::EMPTY, 256, &octets[..]));
+    write_octets(&octets[..]);
 }
 
 fn write_case(seed: u64, mode: u8, n: usize, kind: u64, count: usize) {

@@ -9,4 +9,5 @@ pub mod Buffers
 pub mod Hearing
 pub mod Turns
 pub mod Answers
+pub mod Afresh
 pub mod Spans

@@ -1,0 +1,108 @@
+-- A buffer of 4,096 octets has room for the text of every accepted capture: document 01, "Capture and listing". Assumes nothing.
+use mathlib.Core.Path.{_≡_, refl, sym, ap, _∙_}
+use mathlib.Core.Logic.{_⊎_, inl, inr}
+use mathlib.Core.Bool.{Bool, true, false}
+use mathlib.Core.List.{List, [], _∷_, _++_, List·Memᴰ, List·Memᴰ·head, List·Memᴰ·tail}
+use Prim.Native.Nat.{ℕ, suc, _+_, _-_, _*_, _/_, _%_, _≤_, _<_}
+use native.Mathlib.Omega.{arith}
+use native.Mathlib.Decide.{ℕ-discrete, decLe}
+use borrow.Author.Tests.{eq-eqb, ne-eqb, le-leb, lt-leb}
+use lib.Dec.{eqb, leb}
+use lib.ListN.{length, length-append}
+use Rattle.bits.specs.Choice.{pick}
+use Rattle.bits.specs.Order.{bitAt, laid}
+use Rattle.frame.specs.Modes.{row}
+use Rattle.receiver.specs.Release.{Release, fresh}
+use Rattle.receiver.proofs.Verdicts.{Released, run-cases}
+use Rattle.capture.specs.declared.Listed.{Listed}
+use Rattle.capture.specs.Form.{modeOf, extentOf, laneOf, refusalOf}
+use Rattle.capture.specs.Text.{decimal, nameOf, headLine, releaseLine}
+use Rattle.capture.specs.Listing.{receivedIn, releasedFrom, lines, textOf, Done, done, listed}
+use Rattle.capture.proofs.Decimal.{decimal-below, line-length, head-length}
+use Rattle.capture.proofs.Refusals.{Accepted, accepted}
+use Rattle.capture.proofs.Received.{received-is, released-is}
+
+-- ---- a line has at most 15 octets
+
+status-below : (n : ℕ) → (n ≤ 2) ⊎ ((4 ≤ n) × (n ≤ 6)) → n < 10
+status-below n (inl h) = omega arith
+status-below n (inr h) = omega (arith, h .1)
+
+small-burst : (r : Release) → Released r → (r .place < 10000) × (r .pattern < 1000)
+small-burst r k = by (ℕ-discrete (r .status % 4) 1)
+  where
+    by : Dec (r .status % 4 ≡ 1) → (r .place < 10000) × (r .pattern < 1000)
+    by (yes e) = let b = k .cases .burst e in (omega (arith, b .0), omega (arith, b .2))
+    by (no n) = let b = k .cases .none n in (omega (arith, b .0), omega (arith, b .1))
+
+line-short : (k : ℕ) (r : Release) → k < 1000 → Released r → length (releaseLine k (r .status) (r .place) (r .pattern)) ≤ 15
+line-short k r h c =
+    let b = small-burst r c in
+    omega (
+      arith,
+      line-length k (r .status) (r .place) (r .pattern),
+      decimal-below 2 k h,
+      decimal-below 0 (r .status) (status-below (r .status) (c .status)),
+      decimal-below 3 (r .place) (b .0),
+      decimal-below 2 (r .pattern) (b .1),
+    )
+
+lines-short : (k : ℕ) (out : List Release) → k + length out ≤ 1000 → ((r : Release) → List·Memᴰ r out → Released r) → length (lines k out) ≤ 15 * length out
+unfolding lines
+lines-short k [] h c = omega arith
+lines-short k (r ∷ out) h c =
+    omega (
+      arith,
+      length-append (releaseLine k (r .status) (r .place) (r .pattern)) (lines (suc k) out),
+      line-short k r (omega arith) (c r (List·Memᴰ·head refl)),
+      lines-short (suc k) out (omega arith) (λ x i. c x (List·Memᴰ·tail i)),
+    )
+
+-- ---- the header line has at most 18
+
+name-short : (mode : ℕ) → length (nameOf mode) ≤ 6
+unfolding nameOf
+name-short mode = by (eqb mode 1)
+  where
+    by : (t : Bool) → length {A = ℕ} (pick t (102 ∷ 101 ∷ 99 ∷ 32 ∷ []) (99 ∷ 114 ∷ 99 ∷ 49 ∷ 50 ∷ 32 ∷ [])) ≤ 6
+    by true = omega arith
+    by false = omega arith
+
+-- ---- all of it
+
+pub text-short : (capture : List ℕ) → refusalOf capture ≡ 0 → length (textOf capture) ≤ 4096
+unfolding textOf releasedFrom
+text-short capture z =
+    let ok = accepted capture z in
+    let n = receivedIn capture in
+    let m = length (releasedFrom capture) in
+    let E = extentOf capture in
+    let en = received-is capture in
+    let em = released-is capture in
+    let few : n ≤ 240 = omega (arith, en, ok .short) in
+    omega (
+      arith,
+      length-append (headLine (modeOf capture) E n m) (lines 0 (releasedFrom capture)),
+      head-length (modeOf capture) E n m,
+      name-short (modeOf capture),
+      decimal-below 2 E (omega (arith, ok .most)),
+      decimal-below 2 n (omega (arith, few)),
+      decimal-below 2 m (omega (arith, few, em)),
+      lines-short 0 (releasedFrom capture) (omega (arith, few, em)) (run-cases (row (modeOf capture)) (bitAt (laneOf capture)) fresh n),
+      few,
+      em,
+    )
+
+-- ---- what is counted stands in the buffer
+
+counted : (capture text : List ℕ) → listed capture text .answer .count ≤ length text
+unfolding listed
+counted capture text = by (ℕ-discrete (refusalOf capture) 0) (decLe (length (textOf capture)) (length text))
+  where
+    by : Dec (refusalOf capture ≡ 0) → Dec (length (textOf capture) ≤ length text) → listed capture text .answer .count ≤ length text
+    by (no n) d = rw (ne-eqb (refusalOf capture) 0 n) (omega arith)
+    by (yes e) (yes h) = rw (eq-eqb (refusalOf capture) 0 e, le-leb (length (textOf capture)) (length text) h) h
+    by (yes e) (no n) = rw (eq-eqb (refusalOf capture) 0 e, lt-leb (length (textOf capture)) (length text) (omega arith)) (omega arith)
+
+pub count-fits : (capture text text′ : List ℕ) (r : Listed) → done r text′ ≡ listed capture text → r .count ≤ length text
+count-fits capture text text′ r e = omega (arith, ap (λ (x : Done). x .answer .count) e, counted capture text)

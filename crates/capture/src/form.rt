@@ -1,0 +1,61 @@
+// The form of a capture: document 01, "Capture and listing". Two sections, each after its count in four octets, highest first.
+ghost use mathlib.Core.Path.{_≡_};
+ghost use Prim.Native.Nat.{_*_};
+ghost use Rattle.bits.specs.Order.{bitAt, number};
+ghost use Rattle.capture.specs.Form.{wellFormed, extentOf, refusalOf};
+
+// The count of a section, which stands before it.
+fn count_at(capture: &[u8], at: usize) -> u64
+    ensures { λ r. ⌜ r ≡ number (bitAt (now (capture .entry))) (8 * at) 32 ⌝ }
+{
+    bits::word_at(capture, at) >> 32
+}
+
+// Whether both counts are right, with nothing after, and the whole is not too long.
+fn well_formed(capture: &[u8]) -> bool
+    ensures { λ r. ⌜ r ≡ wellFormed (now (capture .entry)) ⌝ }
+{
+    if capture.len() < 11 {
+        return false;
+    }
+    if capture.len() > 63371 {
+        return false;
+    }
+    if count_at(capture, 0) != 3 {
+        return false;
+    }
+    if count_at(capture, 7) != (capture.len() - 11) as u64 {
+        return false;
+    }
+    true
+}
+
+// E, in two octets.
+pub(crate) fn extent_of(capture: &[u8]) -> u32
+    ensures { λ r. ⌜ r ≡ extentOf (now (capture .entry)) ⌝ }
+{
+    (bits::word_at(capture, 5) >> 48) as u32
+}
+
+// 8, then the table's order: the lowest number that applies, or 0.
+pub(crate) fn refusal_of(capture: &[u8]) -> u8
+    ensures { λ r. ⌜ r ≡ refusalOf (now (capture .entry)) ⌝ }
+{
+    if !well_formed(capture) {
+        return 8;
+    }
+    if bits::octet_at(capture, 4) > 1 {
+        return 1;
+    }
+    let e = extent_of(capture);
+    if e < 1 {
+        return 2;
+    }
+    if e > 256 {
+        return 2;
+    }
+    if (capture.len() - 11) % 264 != 0 {
+        return 4;
+    }
+    0
+}

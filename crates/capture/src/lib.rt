@@ -1,0 +1,86 @@
+// The capture's form and the listing's text: document 01, "Capture and listing".
+ghost use mathlib.Core.Path.{_≡_};
+ghost use Rattle.capture.specs.Form.{opened};
+ghost use Rattle.capture.specs.Listing.{done, listed};
+use receiver::Receiver;
+
+mod form;
+mod lines;
+mod text;
+
+// A refusal, or 0 with the mode, E, and where the lane octets stand.
+pub struct Opened {
+    pub refusal: u8,
+    pub mode: u8,
+    pub e: u32,
+    pub start: usize,
+    pub count: usize,
+}
+
+// A refusal, or 0 with the octets of text.
+pub struct Listed {
+    pub refusal: u8,
+    pub count: usize,
+}
+
+// The sections of a capture.
+pub fn open(capture: &[u8]) -> Opened
+    ensures { λ r. ⌜ r ≡ opened (now (capture .entry)) ⌝ }
+{
+    let refusal = form::refusal_of(capture);
+    if refusal != 0 {
+        return Opened {
+            refusal,
+            mode: 0,
+            e: 0,
+            start: 0,
+            count: 0,
+        };
+    }
+    Opened {
+        refusal: 0,
+        mode: bits::octet_at(capture, 4),
+        e: form::extent_of(capture),
+        start: 11,
+        count: capture.len() - 11,
+    }
+}
+
+// The listing of a capture, over the start of `text`.
+pub fn listing(capture: &[u8], text: &mut [u8]) -> Listed
+    ensures { λ r. ⌜ done r (now (text .exit)) ≡ listed (now (capture .entry)) (now (text .entry)) ⌝ }
+{
+    let opened = open(capture);
+    if opened.refusal != 0 {
+        return Listed {
+            refusal: opened.refusal,
+            count: 0,
+        };
+    }
+    let start = opened.start;
+    let mut octets = [0u8; 61440];
+    let mut statuses = [0u8; 240];
+    let mut commands = [0u32; 240];
+    let mut places = [0u16; 240];
+    let mut patterns = [0u16; 240];
+    let received = receiver::receive(
+        opened.mode,
+        Receiver::fresh(),
+        &capture[start..],
+        &mut octets,
+        &mut statuses,
+        &mut commands,
+        &mut places,
+        &mut patterns,
+    );
+    lines::write(
+        text,
+        opened.mode,
+        opened.e,
+        (opened.count / 264) as u32,
+        received.count,
+        &statuses,
+        &places,
+        &patterns,
+    )
+}
