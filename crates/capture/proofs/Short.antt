@@ -1,25 +1,26 @@
 -- A buffer of 4,096 octets has room for the text of every accepted capture: document 01, "Capture and listing". Assumes nothing.
-use mathlib.Core.Path.{_≡_, refl, sym, ap, _∙_}
+use mathlib.Core.Path.{_≡_, refl, ap}
 use mathlib.Core.Logic.{_⊎_, inl, inr}
 use mathlib.Core.Bool.{Bool, true, false}
-use mathlib.Core.List.{List, [], _∷_, _++_, List·Memᴰ, List·Memᴰ·head, List·Memᴰ·tail}
-use Prim.Native.Nat.{ℕ, suc, _+_, _-_, _*_, _/_, _%_, _≤_, _<_}
+use mathlib.Core.List.{List, [], _∷_, List·Memᴰ, List·Memᴰ·head, List·Memᴰ·tail}
+use Prim.Native.Nat.{ℕ, suc, _+_, _-_, _*_, _%_, _≤_, _<_}
 use native.Mathlib.Omega.{arith}
 use native.Mathlib.Decide.{ℕ-discrete, decLe}
 use borrow.Author.Tests.{eq-eqb, ne-eqb, le-leb, lt-leb}
-use lib.Dec.{eqb, leb}
+use lib.Dec.{eqb}
 use lib.ListN.{length, length-append}
 use Rattle.bits.specs.Choice.{pick}
-use Rattle.bits.specs.Order.{bitAt, laid}
+use Rattle.bits.specs.Order.{bitAt}
+use Rattle.bits.proofs.Laid.{length-laid}
 use Rattle.frame.specs.Modes.{row}
 use Rattle.receiver.specs.Release.{Release, fresh}
 use Rattle.receiver.proofs.Verdicts.{Released, run-cases}
 use Rattle.capture.specs.declared.Listed.{Listed}
 use Rattle.capture.specs.Form.{modeOf, extentOf, laneOf, refusalOf}
-use Rattle.capture.specs.Text.{decimal, nameOf, headLine, releaseLine}
+use Rattle.capture.specs.Text.{nameOf, headLine, releaseLine}
 use Rattle.capture.specs.Listing.{receivedIn, releasedFrom, lines, textOf, Done, done, listed}
 use Rattle.capture.proofs.Decimal.{decimal-below, line-length, head-length}
-use Rattle.capture.proofs.Refusals.{Accepted, accepted}
+use Rattle.capture.proofs.Refusals.{accepted}
 use Rattle.capture.proofs.Received.{received-is, released-is}
 
 -- ---- a line has at most 15 octets
@@ -93,16 +94,28 @@ text-short capture z =
       em,
     )
 
--- ---- what is counted stands in the buffer
+-- ---- what is counted stands in the text, which keeps its length
 
-counted : (capture text : List ℕ) → listed capture text .answer .count ≤ length text
+record Counted (d : Done) (text : List ℕ) : Type 0 where
+  within : d .answer .count ≤ length text
+  long : length (d .text) ≡ length text
+
+counted : (capture text : List ℕ) → Counted (listed capture text) text
 unfolding listed
 counted capture text = by (ℕ-discrete (refusalOf capture) 0) (decLe (length (textOf capture)) (length text))
   where
-    by : Dec (refusalOf capture ≡ 0) → Dec (length (textOf capture) ≤ length text) → listed capture text .answer .count ≤ length text
-    by (no n) d = rw (ne-eqb (refusalOf capture) 0 n) (omega arith)
-    by (yes e) (yes h) = rw (eq-eqb (refusalOf capture) 0 e, le-leb (length (textOf capture)) (length text) h) h
-    by (yes e) (no n) = rw (eq-eqb (refusalOf capture) 0 e, lt-leb (length (textOf capture)) (length text) (omega arith)) (omega arith)
+    none : (refusal : ℕ) → Counted (done (record { refusal = refusal; count = 0 }) text) text
+    none refusal = record { within = omega arith; long = refl }
 
-pub count-fits : (capture text text′ : List ℕ) (r : Listed) → done r text′ ≡ listed capture text → r .count ≤ length text
-count-fits capture text text′ r e = omega (arith, ap (λ (x : Done). x .answer .count) e, counted capture text)
+    by : Dec (refusalOf capture ≡ 0) → Dec (length (textOf capture) ≤ length text) → Counted (listed capture text) text
+    by (no n) d = rw (ne-eqb (refusalOf capture) 0 n) (none (refusalOf capture))
+    by (yes e) (yes h) =
+        rw (eq-eqb (refusalOf capture) 0 e, le-leb (length (textOf capture)) (length text) h) (record { within = h; long = length-laid (textOf capture) text h })
+    by (yes e) (no n) = rw (eq-eqb (refusalOf capture) 0 e, lt-leb (length (textOf capture)) (length text) (omega arith)) (none 7)
+
+module _ (capture text text′ : List ℕ) (r : Listed) (e : done r text′ ≡ listed capture text) where
+  pub count-within : r .count ≤ length text
+  count-within = omega (arith, ap (λ (x : Done). x .answer .count) e, counted capture text .within)
+
+  pub count-within-after : r .count ≤ length text′
+  count-within-after = omega (arith, count-within, ap (λ (x : Done). length (x .text)) e, counted capture text .long)
