@@ -8,3 +8,4 @@ pub mod Lane
 pub mod Packing
 pub mod Parts
 pub mod Sizes
+pub mod Places
