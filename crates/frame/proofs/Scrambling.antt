@@ -4,20 +4,20 @@ use mathlib.Core.Path.{_≡_, refl, sym, ap, ap₂, _∙_}
 use mathlib.Core.List.{List}
 use mathlib.Core.Logic.{_⊎_, inl, inr}
 use Prim.Native.Nat.{ℕ, zero, suc, _+_, _-_, _*_, _/_, _%_, _^_, _≤_, _<_}
-use native.Mathlib.Nat.{zero-lt-suc, div-one, mod-lt, mod-one, zero-add, add-zero, add-suc, suc-add}
+use native.Mathlib.Nat.{zero-lt-suc, div-one, mod-lt, mod-one, mod-eq-of-lt, zero-add, add-zero, add-suc, suc-add}
 use native.Mathlib.Numerals.{one-add, add-one}
 use native.Mathlib.Decide.{decLe}
 use native.Mathlib.Omega.{arith}
 use lib.Dec.{leb, le→leb, leb→le, not-T}
-use lib.ListN.{length}
+use lib.ListN.{length, getD}
 use lib.Pow.{pow-pos, shr-shr, high, low, mod-mod-pow, mod-pow-add}
 use lib.Bits.{bitXor, xor-lt, xor-self, xor-zero-r}
 use Rattle.bits.specs.Order.{bitAt, number}
 use Rattle.bits.proofs.Xor.{xor-assoc}
-use Rattle.bits.proofs.Numbers.{low-digit}
-use Rattle.bits.proofs.Octets.{length-octetsOf}
+use Rattle.bits.proofs.Numbers.{low-digit, bitAt-lt, number-ext, number-octet}
+use Rattle.bits.proofs.Octets.{length-octetsOf, getD-octetsOf, bit-octetsOf}
 use Rattle.bits.proofs.Choice.{pick-true, pick-false}
-use Rattle.frame.specs.Scrambling.{sentBit, allSent, sent, historyAfter, earlier, plain, descrambled}
+use Rattle.frame.specs.Scrambling.{sentBit, allSent, sent, historyAfter, earlier, plain, scrambled, descrambled}
 
 -- ---- the bit d places before
 
@@ -213,6 +213,14 @@ unfolding allSent
 all-sent-ext f g history zero e = refl
 all-sent-ext f g history (suc n) e = ap₂ (λ (x y : ℕ). x * 2 + sentBit y x) (all-sent-ext f g history n (λ j q. e j (omega arith))) (e n (omega arith))
 
+pub history-ext : (f g : ℕ → ℕ) (history n : ℕ) → ((j : ℕ) → j < n → f j ≡ g j) → historyAfter f history n ≡ historyAfter g history n
+unfolding historyAfter
+history-ext f g history n e = ap (λ (x : ℕ). x % 2 ^ 58) (all-sent-ext f g history n e)
+
+pub history-none : (user : ℕ → ℕ) (history : ℕ) → history < 2 ^ 58 → historyAfter user history 0 ≡ history
+unfolding historyAfter allSent
+history-none user history h = mod-eq-of-lt h
+
 pub sent-ext : (f g : ℕ → ℕ) (history k : ℕ) → ((j : ℕ) → j ≤ k → f j ≡ g j) → sent f history k ≡ sent g history k
 unfolding sent
 sent-ext f g history k e = ap₂ sentBit (e k (omega arith)) (all-sent-ext f g history k (λ j q. e j (omega arith)))
@@ -264,3 +272,28 @@ module _ (user : ℕ → ℕ) (bits : (k : ℕ) → user k < 2) (history a n : �
 pub length-descrambled : (octets : List ℕ) (history n : ℕ) → length (descrambled octets history n) ≡ n
 unfolding descrambled
 length-descrambled octets history n = length-octetsOf (plain history (bitAt octets)) n
+
+-- the bits of scrambled octets are those sent
+pub scrambled-bit : (octets : List ℕ) (history n k : ℕ) → k < 8 * n → bitAt (scrambled octets history n) k ≡ sent (bitAt octets) history k
+unfolding scrambled
+scrambled-bit octets history n k h = bit-octetsOf (sent (bitAt octets) history) (sent-lt (bitAt octets) (bitAt-lt octets) history) n k h
+
+-- octets that carry what was sent of a user's octets from octet a on are descrambled to these: all of them after the right history, and
+-- all but the first eight after any
+module _ (user : List ℕ) (history a n : ℕ) (octets : List ℕ) (same : (q : ℕ) → q < 8 * n → bitAt octets q ≡ sent (bitAt user) history (8 * a + q)) where
+  pub octet-undone : (given j : ℕ) → j < n → (8 ≤ j) ⊎ (given % 2 ^ 58 ≡ historyAfter (bitAt user) history (8 * a)) → getD user (a + j) 0 < 256
+      → getD (descrambled octets given n) j 0 ≡ getD user (a + j) 0
+  unfolding descrambled
+  octet-undone given j h known octet-lt =
+      getD-octetsOf (plain given (bitAt octets)) n j h
+      ∙ number-ext (plain given (bitAt octets)) (bitAt user) (8 * j) (8 * (a + j)) 8 bit
+      ∙ number-octet user (a + j) octet-lt
+    where
+      late-or : (k : ℕ) → (8 ≤ j) ⊎ (given % 2 ^ 58 ≡ historyAfter (bitAt user) history (8 * a)) → (58 ≤ 8 * j + k) ⊎ (given % 2 ^ 58 ≡ historyAfter (bitAt user) history (8 * a))
+      late-or k (inl l) = inl (omega arith)
+      late-or k (inr e) = inr e
+
+      bit : (k : ℕ) → k < 8 → plain given (bitAt octets) (8 * j + k) ≡ bitAt user (8 * (a + j) + k)
+      bit k l =
+          undone-from (bitAt user) (bitAt-lt user) history (8 * a) (8 * n) (bitAt octets) same given (8 * j + k) (omega arith) (late-or k known)
+          ∙ ap (bitAt user) {x = 8 * a + (8 * j + k)} {y = 8 * (a + j) + k} (omega arith)
