@@ -1,9 +1,14 @@
--- Where bits stand on a lane, as a number and a multiple of the gap, so that distances are sums: clauses 7.1.2 and 7.1.3. Assumes nothing.
-use mathlib.Core.Path.{_≡_, ap, _∙_}
-use Prim.Native.Nat.{ℕ, _+_, _*_, _/_, _%_}
+-- Where bits stand on a lane, as a number and a multiple of the gap, so that distances are sums; and what is read there: clauses 7.1.2 and
+-- 7.1.3. Assumes nothing.
+use mathlib.Core.Path.{_≡_, refl, ap, ap₂, _∙_}
+use Prim.Native.Nat.{ℕ, _+_, _*_, _/_, _%_, _<_}
 use native.Mathlib.Nat.{add-mul, mul-add, mul-assoc, mul-comm}
 use native.Mathlib.Omega.{arith}
-use Rattle.frame.specs.Lane.{blockWidth, laneOctets, headerPlace, dataPlace}
+use Rattle.bits.specs.Order.{bitAt}
+use Rattle.bits.proofs.Octets.{bit-octetsOf}
+use Rattle.frame.specs.Headers.{value, carries, spoilt}
+use Rattle.frame.specs.Lane.{blockWidth, laneOctets, headerPlace, dataPlace, dataBit, headerAt, syncBit, spoiltBit, dataOctets}
+use Rattle.frame.proofs.Lane.{dataBit-lt}
 
 blocks : (gap t : ℕ) → blockWidth gap * t ≡ 66 * t + gap * (7 * t)
 unfolding blockWidth
@@ -23,4 +28,33 @@ data-form gap m q =
 -- where multiblock m begins
 pub start-form : (gap m : ℕ) → 8 * laneOctets gap * m ≡ 66 * (32 * m) + gap * (7 * (32 * m))
 unfolding laneOctets
-start-form gap m = let a = blocks gap (32 * m) in let b = mul-assoc 32 (blockWidth gap) m in let c = mul-assoc (blockWidth gap) 32 m in let d = ap (λ (x : ℕ). x * m) (mul-comm (blockWidth gap) 32) in omega arith
+start-form gap m =
+    let a = blocks gap (32 * m) in
+    let b = mul-assoc 32 (blockWidth gap) m in
+    let c = mul-assoc (blockWidth gap) 32 m in
+    let d = ap (λ (x : ℕ). x * m) (mul-comm (blockWidth gap) 32) in
+    omega arith
+
+-- ---- what is read there
+
+pub data-is : (gap : ℕ) (lane : ℕ → ℕ) (m q : ℕ) → dataBit gap lane m q ≡ lane (dataPlace gap m q)
+unfolding dataBit
+data-is gap lane m q = refl
+
+pub data-octets-bit : (gap : ℕ) (lane : ℕ → ℕ) → ((k : ℕ) → lane k < 2) → (m q : ℕ) → q < 2048 → bitAt (dataOctets gap lane m) q ≡ dataBit gap lane m q
+unfolding dataOctets
+data-octets-bit gap lane bits m q h = bit-octetsOf (dataBit gap lane m) (dataBit-lt gap lane bits m) 256 q (omega arith)
+
+-- lanes that agree in the two bits of a header read alike there
+module _ (gap : ℕ) (f g : ℕ → ℕ) (m t : ℕ) (first : f (headerPlace gap m t) ≡ g (headerPlace gap m t)) (second : f (headerPlace gap m t + 1) ≡ g (headerPlace gap m t + 1)) where
+  header-same : headerAt gap f m t ≡ headerAt gap g m t
+  unfolding headerAt
+  header-same = ap₂ value first second
+
+  pub sync-same : syncBit gap f m t ≡ syncBit gap g m t
+  unfolding syncBit
+  sync-same = ap carries header-same
+
+  pub spoilt-same : spoiltBit gap f m t ≡ spoiltBit gap g m t
+  unfolding spoiltBit
+  spoilt-same = ap spoilt header-same

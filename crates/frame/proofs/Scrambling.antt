@@ -1,6 +1,6 @@
 -- Laws of scrambling, over streams: each sent bit is the user's and the bits sent 39 and 58 before, descrambling undoes it, and only the 58
 -- latest bits count. Clause 7.2.4; document 01, "From octets to lane bits". Assumes nothing.
-use mathlib.Core.Path.{_≡_, refl, sym, ap, ap₂, _∙_}
+use mathlib.Core.Path.{_≡_, refl, sym, ap, ap₂, _∙_, subst}
 use mathlib.Core.List.{List}
 use mathlib.Core.Logic.{_⊎_, inl, inr}
 use Prim.Native.Nat.{ℕ, zero, suc, _+_, _-_, _*_, _/_, _%_, _^_, _≤_, _<_}
@@ -14,7 +14,7 @@ use lib.Pow.{pow-pos, shr-shr, high, low, mod-mod-pow, mod-pow-add}
 use lib.Bits.{bitXor, xor-lt, xor-self, xor-zero-r}
 use Rattle.bits.specs.Order.{bitAt, number}
 use Rattle.bits.proofs.Xor.{xor-assoc}
-use Rattle.bits.proofs.Numbers.{low-digit, bitAt-lt, number-ext, number-octet}
+use Rattle.bits.proofs.Numbers.{low-digit, bitAt-lt, number-lt, number-ext, number-octet}
 use Rattle.bits.proofs.Octets.{length-octetsOf, getD-octetsOf, bit-octetsOf}
 use Rattle.bits.proofs.Choice.{pick-true, pick-false}
 use Rattle.frame.specs.Scrambling.{sentBit, allSent, sent, historyAfter, earlier, plain, scrambled, descrambled}
@@ -277,6 +277,12 @@ length-descrambled octets history n = length-octetsOf (plain history (bitAt octe
 pub scrambled-bit : (octets : List ℕ) (history n k : ℕ) → k < 8 * n → bitAt (scrambled octets history n) k ≡ sent (bitAt octets) history k
 unfolding scrambled
 scrambled-bit octets history n k h = bit-octetsOf (sent (bitAt octets) history) (sent-lt (bitAt octets) (bitAt-lt octets) history) n k h
+
+pub scrambled-lt : (octets : List ℕ) (history n j : ℕ) → j < n → getD (scrambled octets history n) j 0 < 256
+unfolding scrambled
+scrambled-lt octets history n j h =
+    subst (λ (x : ℕ). x < 256) (sym (getD-octetsOf (sent (bitAt octets) history) n j h))
+    (number-lt (sent (bitAt octets) history) (sent-lt (bitAt octets) (bitAt-lt octets) history) (8 * j) 8)
 
 -- octets that carry what was sent of a user's octets from octet a on are descrambled to these: all of them after the right history, and
 -- all but the first eight after any

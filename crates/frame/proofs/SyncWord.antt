@@ -274,6 +274,13 @@ no-marked-command R none bits bad =
 abbrev pub parityPlace : Row → ℕ → ℕ
 parityPlace R r = place R (parity (R .code .width - 1 - r))
 
+-- a bit of the parity read is what is read there
+pub parity-bit : (R : Row) (bits : ℕ → ℕ) → ((t : ℕ) → bits t < 2) → (r : ℕ) → r < R .code .width
+    → readParity R bits / 2 ^ (R .code .width - 1 - r) % 2 ≡ bits (parityPlace R r)
+unfolding readParity digit
+parity-bit R bits d r h =
+    digit-number (λ j. bits (parityPlace R j)) (λ j. d (parityPlace R j)) 0 (R .code .width) r h ∙ ap (λ (x : ℕ). bits (parityPlace R x)) (zero-add r)
+
 module _ (R : Row) (s : Stands R) where
   pub parityPlace-lt : (r : ℕ) → r < R .code .width → parityPlace R r < 32
   parityPlace-lt r h = s .parities (R .code .width - 1 - r) (omega arith)

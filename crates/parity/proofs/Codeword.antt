@@ -96,11 +96,11 @@ module _ (C : Code) where
         ∙ sym (number-first f p n)
 
     module _ (f : ℕ → ℕ) (parity : ℕ) (room : w ≤ C .positions) where
-      data-part : (p : ℕ) → p < C .positions - w → codeword C f parity p ≡ f p
+      pub data-part : (p : ℕ) → p < C .positions - w → codeword C f parity p ≡ f p
       unfolding codeword
       data-part p h = rw (lt-ltb p (C .positions - w) h)
 
-      parity-part : (p : ℕ) → C .positions - w ≤ p → codeword C f parity p ≡ parity / 2 ^ (C .positions - 1 - p) % 2
+      pub parity-part : (p : ℕ) → C .positions - w ≤ p → codeword C f parity p ≡ parity / 2 ^ (C .positions - 1 - p) % 2
       unfolding codeword
       parity-part p h = rw (le-ltb p (C .positions - w) h)
 

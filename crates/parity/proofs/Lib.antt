@@ -10,5 +10,6 @@ pub mod Cycle
 pub mod Fire
 pub mod Bursts
 pub mod Sets
+pub mod Received
 pub mod Trap
 pub mod Answer

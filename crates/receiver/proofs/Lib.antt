@@ -11,3 +11,5 @@ pub mod Turns
 pub mod Answers
 pub mod Afresh
 pub mod Spans
+pub mod Numbered
+pub mod Judging

@@ -9,6 +9,7 @@ use native.Mathlib.Omega.{arith}
 use borrow.Author.Tests.{eqb-true, eqb-false, eq-eqb, ne-eqb}
 use lib.Dec.{eqb}
 use lib.ListN.{length}
+use Rattle.bits.specs.Choice.{pick}
 use Rattle.bits.specs.Order.{laid}
 use Rattle.frame.specs.Modes.{row}
 use Rattle.sender.specs.declared.Sender.{Sender}
@@ -57,6 +58,19 @@ module _ (mode E : ℕ) (s : Sender) (user commands old : List ℕ) where
     unfolding entry
     is-sent z next all en ea = rw (← e, eq-eqb refusal 0 z, en, ea)
 
+  -- the answer's refusal is the lowest number that applies
+  pub answered : entry mode E s user commands old .answer .refusal ≡ refusalOf mode E s user commands old
+  unfolding entry
+  answered = by (eqb (refusalOf mode E s user commands old) 0) refl
+    where
+      by : (b : Bool) → eqb (refusalOf mode E s user commands old) 0 ≡ b
+          → pick b
+          (done (record { refusal = 0; count = length commands; state = after (row mode) E s user commands }) (laid (lane (row mode) E s user commands) old))
+          (done (record { refusal = refusalOf mode E s user commands old; count = 0; state = s }) old) .answer .refusal
+          ≡ refusalOf mode E s user commands old
+      by true e = sym (eqb-true (refusalOf mode E s user commands old) 0 e)
+      by false e = refl
+
   -- ---- the state that comes back
 
   module _ (e : refusalOf mode E s user commands old ≡ 0) where
@@ -64,7 +78,22 @@ module _ (mode E : ℕ) (s : Sender) (user commands old : List ℕ) where
     unfolding entry
     returned = rw e
 
-    fits : Fits (row mode) E s
+    pub counted : entry mode E s user commands old .answer .count ≡ length commands
+    unfolding entry
+    counted = rw e
+
+    pub written : entry mode E s user commands old .lane ≡ laid (lane (row mode) E s user commands) old
+    unfolding entry
+    written = rw e
+
+    pub whole : length user ≡ 256 * length commands
+    whole =
+        let none = accepted-only mode E s user commands old e in
+        let multiple = same (length user % 256) 0 (λ f. none 4 (part-octets f)) in
+        let each = same (length commands) (length user / 256) (λ f. none 6 (other-count f)) in
+        omega (arith, div-add-mod' (length user) 256)
+
+    pub fits : Fits (row mode) E s
     fits =
         let none = accepted-only mode E s user commands old e in
         let history : 2 ^ 58 ≤ s .history → ⊥ = λ h. none 3 (wide-history h) in
