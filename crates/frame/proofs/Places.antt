@@ -6,8 +6,8 @@ use native.Mathlib.Nat.{add-mul, mul-add, mul-assoc, mul-comm}
 use native.Mathlib.Omega.{arith}
 use Rattle.bits.specs.Order.{bitAt}
 use Rattle.bits.proofs.Octets.{bit-octetsOf}
-use Rattle.frame.specs.Headers.{value, carries, spoilt}
-use Rattle.frame.specs.Lane.{blockWidth, laneOctets, headerPlace, dataPlace, dataBit, headerAt, syncBit, spoiltBit, dataOctets}
+use Rattle.frame.specs.Headers.{value}
+use Rattle.frame.specs.Lane.{blockWidth, laneOctets, headerPlace, dataPlace, dataBit, headerAt, dataOctets}
 use Rattle.frame.proofs.Lane.{dataBit-lt}
 
 blocks : (gap t : ℕ) → blockWidth gap * t ≡ 66 * t + gap * (7 * t)
@@ -45,16 +45,8 @@ pub data-octets-bit : (gap : ℕ) (lane : ℕ → ℕ) → ((k : ℕ) → lane k
 unfolding dataOctets
 data-octets-bit gap lane bits m q h = bit-octetsOf (dataBit gap lane m) (dataBit-lt gap lane bits m) 256 q (omega arith)
 
--- lanes that agree in the two bits of a header read alike there
-module _ (gap : ℕ) (f g : ℕ → ℕ) (m t : ℕ) (first : f (headerPlace gap m t) ≡ g (headerPlace gap m t)) (second : f (headerPlace gap m t + 1) ≡ g (headerPlace gap m t + 1)) where
-  header-same : headerAt gap f m t ≡ headerAt gap g m t
-  unfolding headerAt
-  header-same = ap₂ value first second
-
-  pub sync-same : syncBit gap f m t ≡ syncBit gap g m t
-  unfolding syncBit
-  sync-same = ap carries header-same
-
-  pub spoilt-same : spoiltBit gap f m t ≡ spoiltBit gap g m t
-  unfolding spoiltBit
-  spoilt-same = ap spoilt header-same
+-- lanes that agree in the two bits of a header have the same header there
+pub header-same : (gap : ℕ) (f g : ℕ → ℕ) (m t : ℕ) → f (headerPlace gap m t) ≡ g (headerPlace gap m t) → f (headerPlace gap m t + 1) ≡ g (headerPlace gap m t + 1)
+    → headerAt gap f m t ≡ headerAt gap g m t
+unfolding headerAt
+header-same gap f g m t first second = ap₂ value first second

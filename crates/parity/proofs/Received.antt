@@ -10,19 +10,22 @@ use Rattle.bits.specs.Order.{bitAt, run}
 use Rattle.bits.proofs.Runs.{from-start}
 use Rattle.parity.specs.Remainder.{remainder}
 use Rattle.parity.specs.Codeword.{Code, parityOf, codeword, remainderOf}
-use Rattle.parity.proofs.Codeword.{data-part, parity-part, received, weighed-xor}
+use Rattle.parity.proofs.Codeword.{data-part, parity-part, received, weighed-xor, weighed-ext}
 use Rattle.parity.proofs.Bursts.{Proper}
-use Rattle.parity.proofs.Sets.{remainder-same}
 
 module _ (C : Code) where
   pub remainder-xor : (f h : ℕ → ℕ) → remainderOf C (λ p. bitXor (f p) (h p)) ≡ bitXor (remainderOf C f) (remainderOf C h)
   unfolding remainderOf
   remainder-xor f h = weighed-xor C f h 0 (C .positions)
 
+  pub remainder-within : (f h : ℕ → ℕ) → ((p : ℕ) → p < C .positions → f p ≡ h p) → remainderOf C f ≡ remainderOf C h
+  unfolding remainderOf
+  remainder-within f h e = weighed-ext C f h 0 (C .positions) (λ j l. e (0 + j) (omega arith))
+
   -- no position set
   pub remainder-none : (f : ℕ → ℕ) → ((p : ℕ) → f p ≡ 0) → remainderOf C f ≡ 0
   remainder-none f z =
-      remainder-same C f (λ p. bitXor (f p) (f p)) (λ p. z p ∙ sym (xor-self (f p)))
+      remainder-within f (λ p. bitXor (f p) (f p)) (λ p _. z p ∙ sym (xor-self (f p)))
       ∙ remainder-xor f f
       ∙ xor-self (remainderOf C f)
 

@@ -2,12 +2,12 @@
 -- multiblock i - 1 left. Document 01, "What the receiver releases". Assumes nothing.
 use mathlib.Core.Path.{_≡_, refl, sym, ap, _∙_}
 use mathlib.Core.Bool.{Bool, true, false}
-use mathlib.Core.List.{List, [], _∷_, _++_}
+use mathlib.Core.List.{List, [], _∷_, _++_, append-assoc}
 use Prim.Native.Nat.{ℕ, zero, suc, _+_, _-_, _*_, _<_}
 use native.Mathlib.Nat.{not-suc-le-zero}
 use native.Mathlib.Decide.{decLt}
 use native.Mathlib.Omega.{arith}
-use lib.ListN.{length, getD, List·getD-append}
+use lib.ListN.{length, getD, length-append, List·getD-append}
 use lib.Seq.{getD-at, getD-append-add}
 use Rattle.bits.specs.Choice.{pick}
 use Rattle.bits.specs.Order.{bitAt, number}
@@ -19,7 +19,8 @@ use Rattle.receiver.specs.Judge.{trustedAfter}
 use Rattle.receiver.specs.Release.{fresh, Release, Step, verdictAt, mendedAt, releaseAt, waitingAt, step, run}
 use Rattle.receiver.specs.Refusal.{releases}
 use Rattle.receiver.specs.Entry.{octetsOut, listed}
-use Rattle.receiver.proofs.Counts.{then-waits, step-released, counts}
+use Rattle.receiver.proofs.Counts.{then-waits, step-released, step-first, counts}
+use Rattle.receiver.proofs.Buffers.{release-length}
 
 -- the release at a number, in a list of them
 abbrev pub nth : List Release → ℕ → Release
@@ -87,6 +88,43 @@ module _ (R : Row) (lane : ℕ → ℕ) where
   pub numbered : (n i : ℕ) → i < n → nth (run R lane fresh (suc n) .out) i ≡ releaseAt R lane (suc i) (waiting i)
   numbered zero i h = absurd (not-suc-le-zero h)
   numbered (suc n) i h = ap (λ (l : List Release). nth l i) (one-more n) ∙ last-or n i h (numbered n i) (decLt i n)
+
+-- ---- all that is released
+
+pub octets-append : (a b : List Release) → octetsOut (a ++ b) ≡ octetsOut a ++ octetsOut b
+unfolding octetsOut
+octets-append [] b = refl
+octets-append (r ∷ a) b = ap (λ (l : List ℕ). r .octets ++ l) (octets-append a b) ∙ sym (append-assoc (r .octets) (octetsOut a) (octetsOut b))
+
+pub listed-append : (f : Release → ℕ) (a b : List Release) → listed f (a ++ b) ≡ listed f a ++ listed f b
+unfolding listed
+listed-append f [] b = refl
+listed-append f (r ∷ a) b = ap (λ (l : List ℕ). f r ∷ l) (listed-append f a b)
+
+-- each release has 256 octets
+module _ (R : Row) (lane : ℕ → ℕ) where
+  one-full : (m : ℕ) (s : Receiver) → length (octetsOut (step R lane m s .out)) ≡ 256 * length (step R lane m s .out)
+  one-full m s = by (s .waiting) refl
+    where
+      by : (w : Bool) → s .waiting ≡ w → length (octetsOut (step R lane m s .out)) ≡ 256 * length (step R lane m s .out)
+      by true e =
+          ap (λ (l : List Release). length (octetsOut l)) (step-released R lane m s e)
+          ∙ unfold octetsOut in (length-append (releaseAt R lane m s .octets) [] ∙ omega (arith, release-length R lane m s))
+          ∙ ap (λ (l : List Release). 256 * length l) (sym (step-released R lane m s e))
+      by false e =
+          ap (λ (x : Step). length (octetsOut (x .out))) (step-first R lane m s e)
+          ∙ unfold octetsOut in refl
+          ∙ ap (λ (x : Step). 256 * length (x .out)) (sym (step-first R lane m s e))
+
+  pub all-full : (s : Receiver) (n : ℕ) → length (octetsOut (run R lane s n .out)) ≡ 256 * length (run R lane s n .out)
+  unfolding run octetsOut
+  all-full s zero = refl
+  all-full s (suc n) =
+      let a = run R lane s n .out in
+      let b = step R lane n (run R lane s n .state) .out in
+      ap length (octets-append a b)
+      ∙ length-append (octetsOut a) (octetsOut b)
+      ∙ omega (arith, all-full s n, one-full n (run R lane s n .state), length-append a b)
 
 -- octet j of release i, where each release has 256
 pub octet-at : (out : List Release) (i j : ℕ) → ((k : ℕ) → k < length out → length (nth out k .octets) ≡ 256) → i < length out → j < 256

@@ -1,0 +1,4 @@
+-- Why the promises hold.
+pub mod Pairs
+pub mod Places
+pub mod Wrong
