@@ -16,11 +16,10 @@ use Rattle.parity.proofs.Codeword.{parity-lt}
 use Rattle.frame.specs.Modes.{Row, parity}
 use Rattle.frame.specs.Lane.{laneOctets, dataBit, syncBit, spoiltBit, dataOctets, multiblockBit}
 use Rattle.frame.specs.SyncWord.{syncWord, readParity}
-use Rattle.frame.specs.Scrambling.{sent, historyAfter, scrambled}
+use Rattle.scrambler.specs.Scrambling.{sent, historyAfter, scrambled}
 use Rattle.frame.proofs.SyncWord.{Stands, only-parity, reads-parity}
 use Rattle.frame.proofs.Lane.{laneFrom, data-moved, sync-moved, spoilt-moved, octets-moved, data-back, sync-back, unspoilt-back, octets-back, multiblock-bits}
-use Rattle.frame.proofs.Sizes.{length-scrambled, length-multiblock}
-use Rattle.frame.proofs.Scrambling.{scrambled-bit, scrambled-lt, sent-ext, sent-add, history-ext, history-add, history-none}
+use Rattle.scrambler.proofs.Scrambling.{length-scrambled, scrambled-bit, scrambled-lt, sent-ext, sent-add, history-ext, history-add, history-none}
 use Rattle.sender.specs.declared.Sender.{Sender}
 use Rattle.sender.specs.Lane.{last, sentOne, afterOne, lane, after}
 use Rattle.sender.proofs.Runs.{after-one, lane-more, one-length, lane-length}
