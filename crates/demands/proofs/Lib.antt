@@ -2,3 +2,6 @@
 pub mod Pairs
 pub mod Places
 pub mod Wrong
+pub mod Heard
+pub mod Sent
+pub mod Delivered

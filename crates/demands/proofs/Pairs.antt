@@ -87,11 +87,11 @@ module _ (limit clear n : ℕ) (flips : ℕ → ℕ) (bits : (x : ℕ) → flips
 
   gather : (m a : ℕ) → a + m ≡ n → Gathered a
   gather zero a e = nothing (λ x h l. absurd (omega arith))
-  gather (suc m) a e = by (ℕ-discrete (flips a) 0)
+  gather (suc m) a e = by (ℕ-discrete (flips a) 0) (gather m (suc a) (omega arith))
     where
-      by : Dec (flips a ≡ 0) → Gathered a
-      by (yes z) = skip a z (gather m (suc a) (omega arith))
-      by (no z) = join a (omega arith) (let b = bits a in omega (arith, z)) (gather m (suc a) (omega arith))
+      by : Dec (flips a ≡ 0) → Gathered (suc a) → Gathered a
+      by (yes z) rest = skip a z rest
+      by (no z) rest = join a (omega arith) (let b = bits a in omega (arith, z)) rest
 
   pub in-bursts : InBursts limit clear n flips
   unfolding burst

@@ -32,6 +32,19 @@ near g a b c e x y hx hy h k =
     let n : g * (b + 448) ≡ g * b + g * 448 = mul-add g b 448 in
     omega arith
 
+-- what a multiblock has stands before the next one
+pub data-inside : (g m q : ℕ) → q < 2048 → dataPlace g m q < 8 * laneOctets g * suc m
+data-inside g m q h =
+    let e = start-form g (suc m) in
+    let z = far g (dataBase m q) (dataGaps m q) (headerBase (suc m) 0) (gaps (suc m) 0) 1 (dataPlace g m q) (8 * laneOctets g * suc m)
+    (omega (arith, data-form g m q)) (omega arith) (omega arith) (omega arith) in omega arith
+
+pub header-inside : (g m t : ℕ) → t < 32 → headerPlace g m t + 1 < 8 * laneOctets g * suc m
+header-inside g m t h =
+    let e = start-form g (suc m) in
+    let z = far g (headerBase m t + 1) (gaps m t) (headerBase (suc m) 0) (gaps (suc m) 0) 1 (headerPlace g m t + 1) (8 * laneOctets g * suc m)
+    (omega (arith, header-form g m t)) (omega arith) (omega arith) (omega arith) in omega arith
+
 -- bit x of the lane has a part in position c of the codeword of multiblock i
 pub data At (R : Row) (i c x : ℕ) : Type 0 where
   in-data : c < 2048 → x ≡ dataPlace (R .gap) i c → At R i c x

@@ -23,7 +23,7 @@ use Rattle.frame.proofs.SyncWord.{Stands, parityPlace, parity-bit, readParity-l
 use Rattle.frame.proofs.Lane.{syncBit-lt, same-sync, length-data}
 use Rattle.frame.proofs.Places.{data-is, data-octets-bit, header-same}
 use Rattle.demands.proofs.Pairs.{Pairwise}
-use Rattle.demands.proofs.Places.{At, in-data, in-head, expanding, spans, on-lane}
+use Rattle.demands.proofs.Places.{At, in-data, in-head, expanding, spans, on-lane, from-start}
 
 -- two bits that are not the same differ
 differ : (x y : ℕ) → x < 2 → y < 2 → x ≢ y → bitXor x y ≡ 1
@@ -128,6 +128,15 @@ module _ (R : Row) (stands : Stands R) (proper : Proper (R .code)) where
                 let z : wrong c ≡ 0 = ap wrong (sym q) ∙ wrong-parity r (omega (arith, proper .long))
                 ∙ ap (λ (y : ℕ). bitXor y (syncBit (R .gap) b (suc i) (parityPlace R r))) (same-sync (R .gap) a b (suc i) (parityPlace R r) (header-same (R .gap) a b (suc i) (parityPlace R r) n m))
                 ∙ xor-self (syncBit (R .gap) b (suc i) (parityPlace R r)) in omega arith)
+
+    -- no bit flipped from its start to the next one's end: nothing is wrong
+    pub none-wrong : ((x : ℕ) → 8 * laneOctets (R .gap) * i ≤ x → x < 8 * laneOctets (R .gap) * (i + 2) → flips x ≡ 0) → (c : ℕ) → wrong c ≡ 0
+    none-wrong z c = elim (ℕ-discrete (wrong c) 0) [
+      | yes e ↦ e
+      | no e ↦ absurd (let p = hit c (let h = wrong-lt c in omega (arith, e)) in
+          let y = z (p .0) (from-start R stands i c (p .0) (p .1)) (on-lane R stands i (i + 2) c (p .0) (omega arith) (p .1)) in
+          let f = p .2 in omega arith)
+    ]
 
     -- the remainder of what was received is that of what is wrong in it, where what was sent has none
     pub wrong-remainder : difference a i ≡ 0 → difference b i ≡ remainderOf (R .code) wrong

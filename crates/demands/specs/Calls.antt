@@ -28,7 +28,7 @@ module _ (mode E : ℕ) where
   sending s c = sender.entry mode E s (c .user) (c .commands) (c .lane)
 
   abbrev pub AllSent : Sender → List Sending → Type 0
-  AllSent s [] = ⊤
+  AllSent s [] = Unit {0}
   AllSent s (c ∷ calls) = (sending s c .answer .refusal ≡ 0) × AllSent (sending s c .answer .state) calls
 
   -- the lane: of each call as many octets as its count says
@@ -56,7 +56,7 @@ module _ (mode : ℕ) where
   receiving s c = receiver.entry mode s (c .lane) (c .octets) (c .statuses) (c .commands) (c .places) (c .patterns)
 
   abbrev pub AllHeard : Receiver → List Receiving → Type 0
-  AllHeard s [] = ⊤
+  AllHeard s [] = Unit {0}
   AllHeard s (c ∷ calls) = (receiving s c .answer .refusal ≡ 0) × AllHeard (receiving s c .answer .state) calls
 
   -- all octets and statuses released: of each call as many as its count says

@@ -17,7 +17,7 @@ Covers (b ∷ bursts) x = ((b .first ≤ x) × (x < b .first + b .bits)) ⊎ Cov
 
 -- bursts in order, none before bit `from`, of at most `limit` bits each, with at least `clear` bits from the end of one to the start of the next
 abbrev pub Spaced : ℕ → ℕ → ℕ → List Burst → Type 0
-Spaced limit clear from [] = ⊤
+Spaced limit clear from [] = Unit {0}
 Spaced limit clear from (b ∷ bursts) = (from ≤ b .first) × (b .bits ≤ limit) × Spaced limit clear (b .first + b .bits + clear) bursts
 
 -- of n bits, those flipped all lie in such bursts

@@ -210,6 +210,11 @@ module _ (R : Row) (a b : ℕ → ℕ) where
       let w = R .commandWidth in
       number-ext (λ j. a (place R (command (w - 1 - j)))) (λ j. b (place R (command (w - 1 - j)))) 0 0 w (λ j h. e (w - 1 - (0 + j)) (omega arith))
 
+pub only-marked : (R : Row) (a b bad worse : ℕ → ℕ) → ((k : ℕ) → k < R .commandWidth → a (place R (command k)) ≡ b (place R (command k)))
+    → ((k : ℕ) → k < R .commandWidth → bad (place R (command k)) ≡ worse (place R (command k))) → markedCommand R a bad ≡ markedCommand R b worse
+unfolding markedCommand
+only-marked R a b bad worse e f = ap₂ (λ (x y : ℕ). x + pick (leb 1 y) (2 ^ R .commandWidth) 0) (only-command R a b e) (only-command R bad worse f)
+
 -- 32 sync bits are read alike as a stream and as the number they write
 module _ (R : Row) (s : Stands R) where
   module _ (bits : ℕ → ℕ) (d : (t : ℕ) → bits t < 2) where

@@ -12,10 +12,12 @@ use lib.Seq.{getD-at, getD-append-add}
 use Rattle.bits.specs.Choice.{pick}
 use Rattle.bits.specs.Order.{bitAt, number}
 use Rattle.frame.specs.Modes.{Row}
-use Rattle.frame.specs.Lane.{dataOctets}
+use Rattle.frame.specs.Lane.{dataOctets, syncBit}
+use Rattle.frame.specs.SyncWord.{readParity}
+use Rattle.scrambler.specs.Scrambling.{descrambled}
 use Rattle.receiver.specs.declared.Verdict.{Verdict}
 use Rattle.receiver.specs.declared.Receiver.{Receiver}
-use Rattle.receiver.specs.Judge.{trustedAfter}
+use Rattle.receiver.specs.Judge.{judged, mended, marked, trustedAfter}
 use Rattle.receiver.specs.Release.{fresh, Release, Step, verdictAt, mendedAt, releaseAt, waitingAt, step, run}
 use Rattle.receiver.specs.Refusal.{releases}
 use Rattle.receiver.specs.Entry.{octetsOut, listed}
@@ -48,6 +50,22 @@ module _ (R : Row) (lane : ℕ → ℕ) where
   pub waiting-octets : (i : ℕ) → waiting i .octets ≡ dataOctets (R .gap) lane i
   unfolding run step waitingAt
   waiting-octets i = either-octets (run R lane fresh i .state .waiting) _ _ (dataOctets (R .gap) lane i) refl refl
+
+  pub verdict-is : (i : ℕ) → verdict i ≡ judged R (dataOctets (R .gap) lane i) (readParity R (syncBit (R .gap) lane (suc i)))
+  unfolding verdictAt
+  verdict-is i = ap (λ (l : List ℕ). judged R l (readParity R (syncBit (R .gap) lane (suc i)))) (waiting-octets i)
+
+  pub whole-is : (i : ℕ) → whole i ≡ mended (verdict i) (dataOctets (R .gap) lane i)
+  unfolding mendedAt
+  whole-is i = ap (mended (verdict i)) (waiting-octets i)
+
+  pub octets-are : (i : ℕ) → releaseAt R lane (suc i) (waiting i) .octets ≡ descrambled (whole i) (waiting i .history) 256
+  unfolding releaseAt
+  octets-are i = refl
+
+  pub status-is : (i : ℕ) → releaseAt R lane (suc i) (waiting i) .status ≡ marked (verdict i) (waiting i .trusted)
+  unfolding releaseAt
+  status-is i = refl
 
   -- nothing came before the first
   pub first-trusted : waiting 0 .trusted ≡ false
