@@ -48,14 +48,49 @@ wider b c n f h s = record {
   there = s .there;
 }
 
-module _ (R : Row) (stands : Stands R) (proper : Proper (R .code)) (user : List ℕ) (history first n : ℕ) (a b : ℕ → ℕ) (sends : Sends R user history first n a) (bits : W.Bits b)
-    (limit clear : ℕ) (some : 0 < limit) (wide : 16 * laneOctets (R .gap) ≤ clear) (close : Pairwise limit clear (8 * laneOctets (R .gap) * n) (λ x. bitXor (a x) (b x))) where
+-- a lane that was sent, from a multiblock of it on, and the lane that was heard: of each as many multiblocks, with flips in bursts
+pub record Lanes (R : Row) : Type 0 where
+  pub stands : Stands R
+  pub proper : Proper (R .code)
+  pub user : List ℕ
+  pub history : ℕ  -- the sender's, before its first multiblock
+  pub first : ℕ  -- the multiblock of the sender's lane from which on it was heard
+  pub count : ℕ
+  pub before : ℕ → ℕ
+  pub after : ℕ → ℕ
+  pub sends : Sends R user history first count before
+  pub bits : W.Bits after
+  pub limit : ℕ
+  pub clear : ℕ
+  pub some : 0 < limit
+  pub wide : 16 * laneOctets (R .gap) ≤ clear
+  pub close : Pairwise limit clear (8 * laneOctets (R .gap) * count) (λ x. bitXor (before x) (after x))
+
+module _ (R : Row) (lanes : Lanes R) where
+  abbrev user : List ℕ
+  user = lanes .user
+
+  abbrev history : ℕ
+  history = lanes .history
+
+  abbrev first : ℕ
+  first = lanes .first
+
+  abbrev n : ℕ
+  n = lanes .count
+
+  abbrev a : ℕ → ℕ
+  a = lanes .before
+
+  abbrev b : ℕ → ℕ
+  b = lanes .after
+
   -- the positions of multiblock i's codeword that are wrong, and the difference that the receiver computes
   abbrev wrong : ℕ → ℕ → ℕ
-  wrong i = W.wrong R stands proper a b (sends .bits) bits i
+  wrong i = W.wrong R (lanes .stands) (lanes .proper) a b (lanes .sends .bits) (lanes .bits) i
 
   abbrev difference : ℕ → ℕ
-  difference i = W.difference R stands proper b i
+  difference i = W.difference R (lanes .stands) (lanes .proper) b i
 
   abbrev octets : ℕ → List ℕ
   octets i = dataOctets (R .gap) b i
@@ -68,22 +103,22 @@ module _ (R : Row) (stands : Stands R) (proper : Proper (R .code)) (user : List 
   Right i = (q : ℕ) → q < 2048 → bitAt (whole R b i) q ≡ sent-bit i q
 
   module _ (i : ℕ) (l : suc i < n) where
-    sound-sent : W.difference R stands proper a i ≡ 0
-    sound-sent = ap (bitXor (parityOf (R .code) (dataOctets (R .gap) a i))) (sends .parities i l) ∙ xor-self (parityOf (R .code) (dataOctets (R .gap) a i))
+    sound-sent : W.difference R (lanes .stands) (lanes .proper) a i ≡ 0
+    sound-sent = ap (bitXor (parityOf (R .code) (dataOctets (R .gap) a i))) (lanes .sends .parities i l) ∙ xor-self (parityOf (R .code) (dataOctets (R .gap) a i))
 
     difference-is : difference i ≡ remainderOf (R .code) (wrong i)
-    difference-is = W.wrong-remainder R stands proper a b (sends .bits) bits i sound-sent
+    difference-is = W.wrong-remainder R (lanes .stands) (lanes .proper) a b (lanes .sends .bits) (lanes .bits) i sound-sent
 
     -- a data bit received is the one sent, or wrong
     received-bit : (q : ℕ) → q < 2048 → bitXor (bitAt (octets i) q) (wrong i q) ≡ sent-bit i q
     received-bit q h =
         let x = a (dataPlace (R .gap) i q) in
         let y = b (dataPlace (R .gap) i q) in
-        ap₂ bitXor (data-octets-bit (R .gap) b bits i q h ∙ data-is (R .gap) b i q) (W.wrong-data R stands proper a b (sends .bits) bits i q h ∙ xor-comm x y)
+        ap₂ bitXor (data-octets-bit (R .gap) b (lanes .bits) i q h ∙ data-is (R .gap) b i q) (W.wrong-data R (lanes .stands) (lanes .proper) a b (lanes .sends .bits) (lanes .bits) i q h ∙ xor-comm x y)
         ∙ sym (xor-assoc y y x)
         ∙ ap (λ (z : ℕ). bitXor z x) (xor-self y)
         ∙ sym (data-is (R .gap) a i q)
-        ∙ sends .data-bits i q (omega arith) h
+        ∙ lanes .sends .data-bits i q (omega arith) h
 
     -- nothing is wrong: parity agrees
     module _ (none : (c : ℕ) → wrong i c ≡ 0) where
@@ -99,18 +134,18 @@ module _ (R : Row) (stands : Stands R) (proper : Proper (R .code)) (user : List 
           ∙ received-bit q h
 
     -- something is wrong
-    module _ (burst : BurstSet limit (R .code .positions) (wrong i)) (narrow : limit ≤ R .code .width) where
+    module _ (burst : BurstSet (lanes .limit) (R .code .positions) (wrong i)) (narrow : lanes .limit ≤ R .code .width) where
       differs : difference i ≢ 0
-      differs z = no-set-zero (R .code) proper limit (wrong i) narrow burst (sym difference-is ∙ z)
+      differs z = no-set-zero (R .code) (lanes .proper) (lanes .limit) (wrong i) narrow burst (sym difference-is ∙ z)
 
       -- a code that only notices: it failed
       pub noticed : R .repairs ≡ false → verdict R b i ≡ failed
       noticed r = verdict-is R b i ∙ judged-failed R (octets i) _ r differs
 
       -- the Fire code: it is repaired
-      module _ (repairs : R .repairs ≡ true) (is-fec : R .code ≡ fec) (nine : limit ≤ 9) where
+      module _ (repairs : R .repairs ≡ true) (is-fec : R .code ≡ fec) (nine : lanes .limit ≤ 9) where
         named-burst : (p : ℕ) × (q : ℕ) × IsBurst 9 2074 p q × ((c : ℕ) → flips p q c ≡ wrong i c)
-        named-burst = named 9 2074 (wrong i) (wider limit 9 2074 (wrong i) nine (subst (λ (C : Code). BurstSet limit (C .positions) (wrong i)) is-fec burst))
+        named-burst = named 9 2074 (wrong i) (wider (lanes .limit) 9 2074 (wrong i) nine (subst (λ (C : Code). BurstSet (lanes .limit) (C .positions) (wrong i)) is-fec burst))
 
         repaired : verdict R b i ≡ record { status = 1; place = named-burst .0; pattern = named-burst .1 }
         repaired =
@@ -133,28 +168,28 @@ module _ (R : Row) (stands : Stands R) (proper : Proper (R .code)) (user : List 
 
     -- ---- what becomes of multiblock i
 
-    one-of : ((c : ℕ) → wrong i c ≡ 0) ⊎ BurstSet limit (R .code .positions) (wrong i)
-    one-of = W.wrong-or R stands proper a b (sends .bits) bits i limit clear n some wide close l
+    one-of : ((c : ℕ) → wrong i c ≡ 0) ⊎ BurstSet (lanes .limit) (R .code .positions) (wrong i)
+    one-of = W.wrong-or R (lanes .stands) (lanes .proper) a b (lanes .sends .bits) (lanes .bits) i (lanes .limit) (lanes .clear) n (lanes .some) (lanes .wide) (lanes .close) l
 
     -- with the Fire code it is right, and has not failed
-    pub fec-right : R .repairs ≡ true → R .code ≡ fec → limit ≤ 9 → Right i
+    pub fec-right : R .repairs ≡ true → R .code ≡ fec → lanes .limit ≤ 9 → Right i
     fec-right r c h = ⊎-elim agreed-right (λ s. repaired-right s (omega (arith, narrow)) r c h) one-of
       where
         narrow : 9 ≤ R .code .width
         narrow = subst (λ (C : Code). 9 ≤ C .width) (sym c) (omega arith)
 
     -- with a code that only notices it is right and agrees, or has failed
-    pub crc-right : R .repairs ≡ false → limit ≤ R .code .width → (Right i × (verdict R b i ≡ agrees)) ⊎ (verdict R b i ≡ failed)
+    pub crc-right : R .repairs ≡ false → lanes .limit ≤ R .code .width → (Right i × (verdict R b i ≡ agrees)) ⊎ (verdict R b i ≡ failed)
     crc-right r h = ⊎-elim (λ z. inl (agreed-right z, agreed z)) (λ s. inr (noticed s h r)) one-of
 
     -- a hit in its data is noticed
-    pub crc-hit : R .repairs ≡ false → limit ≤ R .code .width → (q : ℕ) → q < 2048 → bitXor (a (dataPlace (R .gap) i q)) (b (dataPlace (R .gap) i q)) ≡ 1 → verdict R b i ≡ failed
+    pub crc-hit : R .repairs ≡ false → lanes .limit ≤ R .code .width → (q : ℕ) → q < 2048 → bitXor (a (dataPlace (R .gap) i q)) (b (dataPlace (R .gap) i q)) ≡ 1 → verdict R b i ≡ failed
     crc-hit r h q k e =
-        noticed (W.one-burst R stands proper a b (sends .bits) bits i limit clear n some wide close l q (W.wrong-data R stands proper a b (sends .bits) bits i q k ∙ e)) h r
+        noticed (W.one-burst R (lanes .stands) (lanes .proper) a b (lanes .sends .bits) (lanes .bits) i (lanes .limit) (lanes .clear) n (lanes .some) (lanes .wide) (lanes .close) l q (W.wrong-data R (lanes .stands) (lanes .proper) a b (lanes .sends .bits) (lanes .bits) i q k ∙ e)) h r
 
     -- with no bit flipped from its start to the next one's end it agrees
     pub untouched : ((x : ℕ) → 8 * laneOctets (R .gap) * i ≤ x → x < 8 * laneOctets (R .gap) * (i + 2) → bitXor (a x) (b x) ≡ 0) → verdict R b i ≡ agrees
-    untouched z = agreed (W.none-wrong R stands proper a b (sends .bits) bits i z)
+    untouched z = agreed (W.none-wrong R (lanes .stands) (lanes .proper) a b (lanes .sends .bits) (lanes .bits) i z)
 
   -- ---- the history that it leaves, and the octets that are released
 
@@ -189,7 +224,7 @@ module _ (R : Row) (stands : Stands R) (proper : Proper (R .code)) (user : List 
 
     -- ---- a code that only notices: which octets are called sound
 
-    module _ (notices : R .repairs ≡ false) (narrow : limit ≤ R .code .width) where
+    module _ (notices : R .repairs ≡ false) (narrow : lanes .limit ≤ R .code .width) where
       abbrev pub status : ℕ → ℕ
       status i = releaseAt R b (suc i) (waiting R b i) .status
 

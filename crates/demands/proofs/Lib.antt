@@ -5,3 +5,5 @@ pub mod Wrong
 pub mod Heard
 pub mod Sent
 pub mod Delivered
+pub mod Released
+pub mod Promised
