@@ -31,7 +31,7 @@ use Rattle.receiver.specs.Release.{releaseAt}
 use Rattle.receiver.specs.Sound.{sound}
 use Rattle.receiver.proofs.Numbered.{waiting, verdict, whole, verdict-is, whole-is, octets-are, status-is, first-trusted, next-history, next-trusted}
 use Rattle.receiver.proofs.Judging.{judged-sound, judged-failed, judged-burst, mended-bit, mended-none, marked-trusted, marked-untrusted, trusted-after, untrusted-after, Believed, believed}
-use Rattle.demands.proofs.Pairs.{Pairwise}
+use Rattle.demands.specs.Damage.{Pairwise}
 use Rattle.demands.proofs.Wrong as W
 use Rattle.demands.proofs.Sent.{Sends}
 

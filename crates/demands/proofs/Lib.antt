@@ -6,4 +6,5 @@ pub mod Heard
 pub mod Sent
 pub mod Delivered
 pub mod Released
+pub mod Locks
 pub mod Promised

@@ -6,10 +6,7 @@ use mathlib.Core.List.{List, [], _∷_}
 use Prim.Native.Nat.{ℕ, zero, suc, _+_, _-_, _*_, _≤_, _<_}
 use native.Mathlib.Decide.{decLe, ℕ-discrete}
 use native.Mathlib.Omega.{arith}
-use Rattle.demands.specs.Damage.{Burst, Covers, Spaced, InBursts}
-
-abbrev pub Pairwise : ℕ → ℕ → ℕ → (ℕ → ℕ) → Type 0
-Pairwise limit clear n flips = (x y : ℕ) → x < y → y < n → flips x ≡ 1 → flips y ≡ 1 → (y - x < limit) ⊎ (clear < y - x)
+use Rattle.demands.specs.Damage.{Burst, Covers, Spaced, InBursts, Pairwise}
 
 -- ---- from bursts to pairs
 

@@ -6,10 +6,15 @@ use Prim.Native.Nat.{ℕ, zero, suc, _+_, _-_, _*_, _<_, _≤_}
 use native.Mathlib.Omega.{arith}
 use Rattle.frame.specs.Modes.{row}
 use Rattle.frame.specs.Lane.{laneOctets, dataPlace}
+use Rattle.parity.proofs.Bursts.{one-burst}
+use Rattle.parity.proofs.Sets.{one-set}
 use Rattle.frame.proofs.Sizes.{row-octets}
+use Rattle.frame.proofs.Dozen.{all-right}
 use Rattle.receiver.specs.Sound.{sound}
 use Rattle.demands.specs.Transfer.{Transfer, flips, DamagedBy, Untouched, releases, released, status, given}
-use Rattle.demands.specs.Promises.{FecDelivers, CrcTellsHits, CrcSoundTrue, CrcUntouchedSound}
+use Rattle.demands.specs.Promises.{FecDelivers, CrcTellsHits, CrcSoundTrue, CrcUntouchedSound, BurstsByPairs, OneBurst, OneSet, LocksInTime, DozenRight}
+use Rattle.demands.proofs.Pairs.{pairs, in-bursts}
+use Rattle.demands.proofs.Locks.{locks-in-time}
 use Rattle.demands.proofs.Delivered.{Lanes, Right, fec-right, next-octet, hit-status, sound-octet, untouched-status}
 use Rattle.demands.proofs.Released.{count, lanes, all-released, status-at, octet-released}
 
@@ -73,3 +78,20 @@ crc-sound-true E t damaged i j l h e = sound-true E t 12 4224 (omega arith) (ome
 pub crc-untouched-sound : CrcUntouchedSound
 crc-untouched-sound E t damaged i after-first l u =
     sound-all E t 12 4224 (omega arith) (omega arith) (omega arith) damaged i (omega arith) l u
+
+-- ---- the premise, burst uniqueness, the locks, the dozen
+
+pub bursts-by-pairs : BurstsByPairs
+bursts-by-pairs limit clear n f bits some short = (pairs limit clear n f, in-bursts limit clear n f bits some short)
+
+pub one-burst-only : OneBurst
+one-burst-only = one-burst
+
+pub one-set-only : OneSet
+one-set-only = one-set
+
+pub in-time : LocksInTime
+in-time = locks-in-time
+
+pub dozen-right : DozenRight
+dozen-right = all-right

@@ -19,7 +19,8 @@ use Rattle.receiver.proofs.Buffers.{listed-length, release-length}
 use Rattle.receiver.proofs.Numbered.{nth, waiting, numbered, octet-at, listed-at}
 use Rattle.demands.specs.Calls.{userOctets, laneSent, laneHeard}
 use Rattle.demands.specs.Transfer.{Transfer, flips, DamagedBy, releases, released, status}
-use Rattle.demands.proofs.Pairs.{Pairwise, pairs}
+use Rattle.demands.specs.Damage.{Pairwise}
+use Rattle.demands.proofs.Pairs.{pairs}
 use Rattle.demands.proofs.Heard.{AllRun, all-calls}
 use Rattle.demands.proofs.Sent.{OneLane, one-lane, allCommands, Sends, sends}
 use Rattle.demands.proofs.Delivered.{Lanes}

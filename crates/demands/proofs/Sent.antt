@@ -2,7 +2,7 @@
 -- bits". Assumes nothing.
 use mathlib.Core.Path.{_≡_, refl, sym, ap, ap₂, _∙_, subst, fun-ext}
 use mathlib.Core.List.{List, [], _∷_, _++_}
-use Prim.Native.Nat.{ℕ, suc, _+_, _-_, _*_, _^_, _<_, _≤_}
+use Prim.Native.Nat.{ℕ, suc, _+_, _-_, _*_, _<_, _≤_}
 use native.Mathlib.Nat.{mul-add}
 use native.Mathlib.Omega.{arith}
 use lib.ListN.{length, take, length-append}
@@ -22,7 +22,7 @@ use Rattle.sender.specs.Lane.{lane, after}
 use Rattle.sender.specs.Refusal.{refusalOf}
 use Rattle.sender.proofs.States.{Fits}
 use Rattle.sender.proofs.Runs.{lane-join, lane-length}
-use Rattle.sender.proofs.Entry.{answered, returned, counted, written, whole, fits}
+use Rattle.sender.proofs.Entry.{answered, returned, counted, written, whole, blocks, fits}
 use Rattle.sender.proofs.Multiblocks.{data-sent, parity-sent}
 use Rattle.demands.specs.Calls.{Sending, sending, userOctets, AllSent, laneSent}
 use Rattle.demands.proofs.Wrong.{Bits}
@@ -40,7 +40,7 @@ module _ (mode E : ℕ) where
   pub record OneLane (s : Sender) (calls : List Sending) : Type 0 where
     pub made : laneSent mode E s calls ≡ lane R E s (userOctets calls) (allCommands calls)
     pub given : length (userOctets calls) ≡ 256 * length (allCommands calls)
-    pub history : 0 < length (allCommands calls) → s .history < 2 ^ 58
+    pub ready : 0 < length (allCommands calls) → Fits R E s × (1 ≤ E) × (E ≤ 256)
 
   module _ (s : Sender) (c : Sending) (z : sending mode E s c .answer .refusal ≡ 0) (calls : List Sending) (rest : OneLane (sending mode E s c .answer .state) calls) where
     accepted : refusalOf mode E s (c .user) (c .commands) (c .lane) ≡ 0
@@ -65,11 +65,13 @@ module _ (mode E : ℕ) where
         whole mode E s (c .user) (c .commands) (c .lane) accepted,
         rest .given,
       );
-      history = λ _. fits mode E s (c .user) (c .commands) (c .lane) accepted .history;
+      ready = λ _.
+          let within = blocks mode E s (c .user) (c .commands) (c .lane) accepted in
+          (fits mode E s (c .user) (c .commands) (c .lane) accepted, within .0, within .1);
     }
 
   pub one-lane : (s : Sender) (calls : List Sending) → AllSent mode E s calls → OneLane s calls
-  one-lane s [] h = record { made = unfold lane in refl; given = refl; history = λ l. absurd (omega arith) }
+  one-lane s [] h = record { made = unfold lane in refl; given = refl; ready = λ l. absurd (omega arith) }
   one-lane s (c ∷ calls) h = with-call s c (h .0) calls (one-lane (sending mode E s c .answer .state) calls (h .1))
 
 -- ---- what the multiblocks of a lane carry, from one of them on
@@ -115,7 +117,7 @@ sends mode E s calls one first n inside = subst (λ (l : List ℕ). Sends R user
       bits = λ k. bitAt-lt all (8 * laneOctets (R .gap) * first + k);
       data-bits = λ i q h l.
           data-from (R .gap) (bitAt all) first i q
-          ∙ data-sent R E s user (allCommands calls) enough (one .history (omega arith)) (first + i) q (omega arith) l;
+          ∙ data-sent R E s user (allCommands calls) enough (one .ready (omega arith) .0 .history) (first + i) q (omega arith) l;
       parities = λ i h.
           only-parity R (syncBit (R .gap) (laneFrom (R .gap) (bitAt all) first) (suc i)) (syncBit (R .gap) (bitAt all) (suc (first + i)))
           (λ k l. sync-from (R .gap) (bitAt all) first (suc i) (place R (parity k)) ∙ ap (λ (m : ℕ). syncBit (R .gap) (bitAt all) m (place R (parity k))) {x = first + suc i} {y = suc (first + i)} (omega arith))

@@ -22,7 +22,7 @@ use Rattle.frame.specs.SyncWord.{readParity}
 use Rattle.frame.proofs.SyncWord.{Stands, parityPlace, parity-bit, readParity-lt}
 use Rattle.frame.proofs.Lane.{syncBit-lt, same-sync, length-data}
 use Rattle.frame.proofs.Places.{data-is, data-octets-bit, header-same}
-use Rattle.demands.proofs.Pairs.{Pairwise}
+use Rattle.demands.specs.Damage.{Pairwise}
 use Rattle.demands.proofs.Places.{At, in-data, in-head, expanding, spans, on-lane, from-start}
 
 -- two bits that are not the same differ

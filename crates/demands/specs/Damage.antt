@@ -3,7 +3,7 @@
 use mathlib.Core.Path.{_≡_}
 use mathlib.Core.Logic.{_⊎_}
 use mathlib.Core.List.{List, [], _∷_}
-use Prim.Native.Nat.{ℕ, _+_, _≤_, _<_}
+use Prim.Native.Nat.{ℕ, _+_, _-_, _≤_, _<_}
 
 -- a burst: some consecutive bits of a lane
 pub record Burst : Type 0 where
@@ -25,3 +25,7 @@ pub record InBursts (limit clear n : ℕ) (flips : ℕ → ℕ) : Type 0 where
   pub bursts : List Burst
   pub spaced : Spaced limit clear 0 bursts
   pub covered : (x : ℕ) → x < n → flips x ≡ 1 → Covers bursts x
+
+-- the same by pairs: any two flipped bits are less than `limit` apart, or have at least `clear` bits between them
+abbrev pub Pairwise : ℕ → ℕ → ℕ → (ℕ → ℕ) → Type 0
+Pairwise limit clear n flips = (x y : ℕ) → x < y → y < n → flips x ≡ 1 → flips y ≡ 1 → (y - x < limit) ⊎ (clear < y - x)

@@ -103,11 +103,11 @@ header-halves : (h : ℕ) → value (h / 2) (h % 2) ≡ h
 unfolding value
 header-halves h = div-add-mod' h 2
 
-carried : (b : ℕ) → b < 2 → carries (headerOf b) ≡ b
+pub carried : (b : ℕ) → b < 2 → carries (headerOf b) ≡ b
 unfolding carries headerOf
 carried b h = bit-cases (λ (b : ℕ). carries (headerOf b) ≡ b) refl refl b h
 
-unspoilt : (b : ℕ) → b < 2 → spoilt (headerOf b) ≡ 0
+pub unspoilt : (b : ℕ) → b < 2 → spoilt (headerOf b) ≡ 0
 unfolding spoilt headerOf
 unspoilt b h = bit-cases (λ (b : ℕ). spoilt (headerOf b) ≡ 0) refl refl b h
 
@@ -129,7 +129,7 @@ module _ (gap sync : ℕ) (octets : List ℕ) (lane : ℕ → ℕ) (begins : (x 
       ∙ block-data gap (digit 32 sync b) (λ q. bitAt octets (64 * b + q)) r
       ∙ ap (bitAt octets) (omega arith)
 
-  header-back : (t : ℕ) → t < 32 → headerAt gap lane 0 t ≡ headerOf (digit 32 sync t)
+  pub header-back : (t : ℕ) → t < 32 → headerAt gap lane 0 t ≡ headerOf (digit 32 sync t)
   unfolding headerAt headerPlace blockBit
   header-back t h =
       let first : lane (blockWidth gap * (32 * 0 + t)) ≡ headerOf (digit 32 sync t) / 2 = ap lane (omega (arith, start t)) ∙ lane-at t 0 h (omega (arith, width gap)) in

@@ -17,7 +17,7 @@ use Rattle.sender.specs.Lane.{lane, after}
 use Rattle.sender.specs.Refusal.{stateFits, refusalOf}
 use Rattle.sender.specs.Entry.{done, entry}
 use Rattle.sender.proofs.States.{Fits, in-range, fitting, accepted-again}
-use Rattle.sender.proofs.Given.{Applies, too-many-blocks, wide-history, wide-parity, high-number, part-octets, too-many, other-count, short-lane, only-when, accepted-only}
+use Rattle.sender.proofs.Given.{Applies, no-blocks, too-many-blocks, wide-history, wide-parity, high-number, part-octets, too-many, other-count, short-lane, only-when, accepted-only}
 
 same : (a b : ℕ) → ((a ≡ b → ⊥) → ⊥) → a ≡ b
 same a b f = go (eqb a b) refl
@@ -92,6 +92,13 @@ module _ (mode E : ℕ) (s : Sender) (user commands old : List ℕ) where
         let multiple = same (length user % 256) 0 (λ f. none 4 (part-octets f)) in
         let each = same (length commands) (length user / 256) (λ f. none 6 (other-count f)) in
         omega (arith, div-add-mod' (length user) 256)
+
+    pub blocks : (1 ≤ E) × (E ≤ 256)
+    blocks =
+        let none = accepted-only mode E s user commands old e in
+        let low : E < 1 → ⊥ = λ h. none 2 (no-blocks h) in
+        let high : 256 < E → ⊥ = λ h. none 2 (too-many-blocks h) in
+        (omega arith, omega arith)
 
     pub fits : Fits (row mode) E s
     fits =

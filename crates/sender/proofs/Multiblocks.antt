@@ -1,28 +1,43 @@
 -- The multiblocks of a lane by number: multiblock i carries the user's bits from bit 2,048 i on, scrambled in one run with all before them,
 -- and the parity of multiblock i - 1. Document 01, "From octets to lane bits". Assumes nothing.
-use mathlib.Core.Path.{_≡_, refl, sym, ap, ap₂, _∙_}
+use mathlib.Core.Path.{_≡_, refl, sym, ap, _∙_}
+use mathlib.Core.Bool.{Bool, true, false}
 use mathlib.Core.List.{List, [], _∷_, _++_}
-use Prim.Native.Nat.{ℕ, zero, suc, _+_, _-_, _*_, _%_, _^_, _≤_, _<_}
-use native.Mathlib.Nat.{mod-eq-of-lt}
+use Prim.Native.Nat.{ℕ, zero, suc, _+_, _-_, _*_, _/_, _%_, _^_, _≤_, _<_}
+use native.Mathlib.Nat.{add-zero, mod-lt, mod-self, mod-eq-of-lt, div-add-mod, mul-add-mod-self-left}
 use native.Mathlib.Omega.{arith}
+use borrow.Author.Tests.{eqb-true, eqb-false}
+use lib.Dec.{eqb}
 use lib.ListN.{length, getD, take, drop, length-append, length-drop}
 use lib.Seq.{split-at, drop-at, take-suc, length-take-le, take-all}
-use Rattle.bits.specs.Choice.{bitOf}
+use Rattle.bits.specs.Choice.{pick, bitOf}
 use Rattle.bits.specs.Order.{bitAt, digit}
 use Rattle.bits.proofs.Octets.{bit-drop, bit-take, bit-append}
 use Rattle.parity.specs.Codeword.{parityOf}
 use Rattle.parity.proofs.Bursts.{Proper}
 use Rattle.parity.proofs.Codeword.{parity-lt}
 use Rattle.frame.specs.Modes.{Row, parity}
-use Rattle.frame.specs.Lane.{laneOctets, dataBit, syncBit, spoiltBit, dataOctets, multiblockBit}
-use Rattle.frame.specs.SyncWord.{syncWord, readParity}
+use Rattle.frame.specs.Headers.{headerOf}
+use Rattle.frame.specs.Lane.{laneOctets, dataBit, headerAt, syncBit, dataOctets, multiblockBit}
+use Rattle.frame.specs.SyncWord.{held, syncWord, readParity}
 use Rattle.scrambler.specs.Scrambling.{sent, historyAfter, scrambled}
-use Rattle.frame.proofs.SyncWord.{Stands, only-parity, reads-parity}
-use Rattle.frame.proofs.Lane.{laneFrom, data-moved, sync-moved, spoilt-moved, octets-moved, data-back, sync-back, unspoilt-back, octets-back, multiblock-bits}
+use Rattle.frame.proofs.SyncWord.{Stands, fieldAt, held-digit, only-parity, reads-parity}
+use Rattle.frame.proofs.Lane.{laneFrom, data-moved, header-at-moved, sync-moved, octets-moved, data-back, header-back, sync-back, octets-back, multiblock-bits}
 use Rattle.scrambler.proofs.Scrambling.{length-scrambled, scrambled-bit, scrambled-lt, sent-ext, sent-add, history-ext, history-add, history-none}
 use Rattle.sender.specs.declared.Sender.{Sender}
 use Rattle.sender.specs.Lane.{last, sentOne, afterOne, lane, after}
 use Rattle.sender.proofs.Runs.{after-one, lane-more, one-length, lane-length}
+
+-- counting modulo E, by a test
+next-number : (m E : ℕ) → 0 < E → pick (eqb (m % E + 1) E) 0 (m % E + 1) ≡ (m + 1) % E
+next-number m E some = by (eqb (m % E + 1) E) refl
+  where
+    split : (m + 1) % E ≡ (m % E + 1) % E
+    split = ap (λ (x : ℕ). x % E) {x = m + 1} {y = E * (m / E) + (m % E + 1)} (omega (arith, div-add-mod m E)) ∙ mul-add-mod-self-left E (m / E) (m % E + 1)
+
+    by : (b : Bool) → eqb (m % E + 1) E ≡ b → pick b 0 (m % E + 1) ≡ (m + 1) % E
+    by true e = sym (split ∙ ap (λ (x : ℕ). x % E) (eqb-true (m % E + 1) E e) ∙ mod-self E)
+    by false e = sym (split ∙ mod-eq-of-lt (let n = eqb-false (m % E + 1) E e in let l = mod-lt m some in omega (arith, n)))
 
 module _ (R : Row) (E : ℕ) (s : Sender) (user commands : List ℕ) (given : 256 * length commands ≤ length user) where
   -- the state before multiblock i, and its 256 user octets
@@ -64,6 +79,21 @@ module _ (R : Row) (E : ℕ) (s : Sender) (user commands : List ℕ) (given : 25
         ∙ history-add (bitAt user) (s .history) (2048 * i) 2048
         ∙ ap (historyAfter (bitAt user) (s .history)) {x = 2048 * i + 2048} {y = 2048 * suc i} (omega arith)
 
+  -- ---- its number in its extended multiblock
+
+  left-number : (x : Sender) (u : List ℕ) → afterOne R E x u .number ≡ pick (last E x) 0 (x .number + 1)
+  unfolding afterOne
+  left-number x u = refl
+
+  pub number-before : s .number < E → (i : ℕ) → i ≤ length commands → before i .number ≡ (s .number + i) % E
+  number-before fits zero h = unfold after in (sym (ap (λ (x : ℕ). x % E) (add-zero (s .number)) ∙ mod-eq-of-lt fits))
+  number-before fits (suc i) h =
+      ap (λ (x : Sender). x .number) (before-next i (omega arith))
+      ∙ left-number (before i) (own i)
+      ∙ ap (λ (x : ℕ). pick (eqb (x + 1) E) 0 (x + 1)) (number-before fits i (omega arith))
+      ∙ next-number (s .number + i) E (omega arith)
+      ∙ ap (λ (x : ℕ). x % E) {x = s .number + i + 1} {y = s .number + suc i} (omega arith)
+
   -- ---- the multiblock
 
   abbrev octets : ℕ → List ℕ
@@ -94,12 +124,17 @@ module _ (R : Row) (E : ℕ) (s : Sender) (user commands : List ℕ) (given : 25
       ∙ bit-append (sentOne R E (before i) (own i) (getD commands i 0)) (rest i) x (omega (arith, one-length R E (before i) (own i) (getD commands i 0)))
       ∙ unfold sentOne in multiblock-bits (R .gap) (word i) (octets i) x l
 
-  -- its sync bits, all of them valid
+  -- its sync bits
   pub sync-sent : (i t : ℕ) → i < length commands → t < 32 → syncBit (R .gap) (bitAt all) i t ≡ digit 32 (word i) t
   sync-sent i t h l = sync-moved (R .gap) (bitAt all) i t ∙ sync-back (R .gap) (word i) (octets i) (laneFrom (R .gap) (bitAt all) i) (begins i h) t l
 
-  pub unspoilt-sent : (i t : ℕ) → i < length commands → t < 32 → spoiltBit (R .gap) (bitAt all) i t ≡ 0
-  unspoilt-sent i t h l = spoilt-moved (R .gap) (bitAt all) i t ∙ unspoilt-back (R .gap) (word i) (octets i) (laneFrom (R .gap) (bitAt all) i) (begins i h) t l
+  -- its headers
+  pub header-sent : (i t : ℕ) → i < length commands → t < 32
+      → headerAt (R .gap) (bitAt all) i t ≡ headerOf (held (before i .parity) (getD commands i 0) (bitOf (last E (before i))) (fieldAt R t))
+  header-sent i t h l =
+      header-at-moved (R .gap) (bitAt all) i t
+      ∙ header-back (R .gap) (word i) (octets i) (laneFrom (R .gap) (bitAt all) i) (begins i h) t l
+      ∙ ap headerOf (held-digit R (before i .parity) (getD commands i 0) (bitOf (last E (before i))) t l)
 
   module _ (fits : s .history < 2 ^ 58) where
     pub data-sent : (i q : ℕ) → i < length commands → q < 2048 → dataBit (R .gap) (bitAt all) i q ≡ sent (bitAt user) (s .history) (2048 * i + q)
