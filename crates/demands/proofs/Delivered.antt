@@ -242,11 +242,12 @@ module _ (R : Row) (lanes : Lanes R) where
           before : verdict R b i .status ≢ 2
           before e = true-not-false (sym t ∙ next-trusted R b i ∙ untrusted-after (verdict R b i) e)
 
-      pub sound-octet : (i j : ℕ) → suc i < n → j < 256 → sound (status i) j ≡ true → octet i j ≡ getD user (256 * (first + i) + j) 0
-      sound-octet i j l h e =
-          let believe = believed (verdict R b i) (waiting R b i .trusted) j (small i l) (ap (λ (x : ℕ). sound x j) (sym (status-is R b i)) ∙ e) in
+      -- an octet called sound is the one sent, and so is each after it in its multiblock
+      pub sound-octet : (i k j : ℕ) → suc i < n → k ≤ j → j < 256 → sound (status i) k ≡ true → octet i j ≡ getD user (256 * (first + i) + j) 0
+      sound-octet i k j l m h e =
+          let believe = believed (verdict R b i) (waiting R b i .trusted) k (small i l) (ap (λ (x : ℕ). sound x k) (sym (status-is R b i)) ∙ e) in
           let right = not-failed i l (believe .not-failed) in
-          ⊎-elim (λ t. trusted-right i j l t right h) (λ late. late-octet i j right h late) (believe .known)
+          ⊎-elim (λ t. trusted-right i j l t right h) (λ (late : 8 ≤ k). late-octet i j right h (omega arith)) (believe .known)
 
       pub hit-status : (i q : ℕ) → suc i < n → q < 2048 → bitXor (a (dataPlace (R .gap) i q)) (b (dataPlace (R .gap) i q)) ≡ 1 → (status i ≡ 2) ⊎ (status i ≡ 6)
       hit-status i q l h e = by (waiting R b i .trusted) refl

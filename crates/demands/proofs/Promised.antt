@@ -3,6 +3,7 @@ use mathlib.Core.Path.{_≡_, refl, sym, ap, _∙_}
 use mathlib.Core.Logic.{_⊎_, ⊎-elim, inl, inr}
 use mathlib.Core.Bool.{true}
 use Prim.Native.Nat.{ℕ, zero, suc, _+_, _-_, _*_, _<_, _≤_}
+use native.Mathlib.Nat.{mul-le-mul-left}
 use native.Mathlib.Omega.{arith}
 use Rattle.frame.specs.Modes.{row}
 use Rattle.frame.specs.Lane.{laneOctets, dataPlace}
@@ -24,7 +25,7 @@ far-enough mode clear h = omega (arith, row-octets mode)
 
 -- ---- FEC
 
-module _ (E : ℕ) (t : Transfer 1 E) (limit clear : ℕ) (some : 0 < limit) (nine : limit ≤ 9) (far : 4224 ≤ clear) (damaged : DamagedBy t limit clear) where
+module _ {E : ℕ} (t : Transfer 1 E) {limit clear : ℕ} (damaged : DamagedBy t limit clear) (some : 0 < limit) (nine : limit ≤ 9) (far : 4224 ≤ clear) where
   abbrev heard : Lanes (row 1)
   heard = lanes t limit clear some (far-enough 1 clear far) damaged
 
@@ -34,50 +35,47 @@ module _ (E : ℕ) (t : Transfer 1 E) (limit clear : ℕ) (some : 0 < limit) (ni
   delivered : (i j : ℕ) → 1 ≤ i → i < releases t → j < 256 → released t i j ≡ given t i j
   delivered zero j h l m = absurd (omega arith)
   delivered (suc i) j h l m =
-      let heard-next = all-released t (suc i) l in
-      octet-released t (suc i) heard-next j m
-      ∙ next-octet (row 1) heard (t .octets) i j (right i (omega arith)) (right (suc i) heard-next) m
+      let next = all-released t (suc i) l in
+      octet-released t (suc i) next j m ∙ next-octet (row 1) heard (t .octets) i j (right i (omega arith)) (right (suc i) next) m
 
 pub fec-delivers : FecDelivers
-fec-delivers E t damaged i j after-first l m = delivered E t 9 4224 (omega arith) (omega arith) (omega arith) damaged i j (omega arith) l m
+fec-delivers E t damaged i j after-first l m = delivered t damaged (omega arith) (omega arith) (omega arith) i j (omega arith) l m
 
 -- ---- CRC-12
 
-module _ (E : ℕ) (t : Transfer 0 E) (limit clear : ℕ) (some : 0 < limit) (twelve : limit ≤ 12) (far : 4224 ≤ clear) (damaged : DamagedBy t limit clear) where
-  abbrev received : Lanes (row 0)
-  received = lanes t limit clear some (far-enough 0 clear far) damaged
+module _ {E : ℕ} (t : Transfer 0 E) {limit clear : ℕ} (damaged : DamagedBy t limit clear) (some : 0 < limit) (twelve : limit ≤ 12) (far : 4224 ≤ clear) where
+  abbrev heard-crc : Lanes (row 0)
+  heard-crc = lanes t limit clear some (far-enough 0 clear far) damaged
 
   tells : (i q : ℕ) → i < releases t → q < 2048 → flips t (dataPlace (row 0 .gap) i q) ≡ 1 → (status t i ≡ 2) ⊎ (status t i ≡ 6)
   tells i q l h e =
-      let heard-next = all-released t i l in
-      let is = status-at t i heard-next in
-      ⊎-elim (λ z. inl (is ∙ z)) (λ z. inr (is ∙ z)) (hit-status (row 0) received (t .octets) refl twelve i q heard-next h e)
+      let next = all-released t i l in
+      let is = status-at t i next in
+      ⊎-elim (λ z. inl (is ∙ z)) (λ z. inr (is ∙ z)) (hit-status (row 0) heard-crc (t .octets) refl twelve i q next h e)
 
-  sound-true : (i j : ℕ) → i < releases t → j < 256 → sound (status t i) j ≡ true → released t i j ≡ given t i j
-  sound-true i j l h e =
-      let heard-next = all-released t i l in
-      octet-released t i heard-next j h
-      ∙ sound-octet (row 0) received (t .octets) refl twelve i j heard-next h (ap (λ (x : ℕ). sound x j) (sym (status-at t i heard-next)) ∙ e)
+  sound-true : (i j : ℕ) {k : ℕ} → i < releases t → j < 256 → sound (status t i) k ≡ true → k ≤ j → released t i j ≡ given t i j
+  sound-true i j {k} l h e m =
+      let next = all-released t i l in
+      octet-released t i next j h
+      ∙ sound-octet (row 0) heard-crc (t .octets) refl twelve i k j next m h (ap (λ (x : ℕ). sound x k) (sym (status-at t i next)) ∙ e)
 
-  sound-all : (i : ℕ) → 1 ≤ i → i < releases t → Untouched t (i - 1) (i + 2) → status t i ≡ 0
-  sound-all zero h l u = absurd (omega arith)
-  sound-all (suc i) h l u =
-      let heard-next = all-released t (suc i) l in
-      let bits = 8 * laneOctets (row 0 .gap) in
-      let from : bits * (suc i - 1) ≡ bits * i = ap (λ (x : ℕ). bits * x) {x = suc i - 1} {y = i} (omega arith) in
-      let to : bits * (suc i + 2) ≡ bits * (i + 3) = ap (λ (x : ℕ). bits * x) {x = suc i + 2} {y = i + 3} (omega arith) in
-      status-at t (suc i) heard-next
-      ∙ untouched-status (row 0) received (t .octets) refl twelve i heard-next (λ x p q. u x (omega arith) (omega arith))
+  sound-all : (i : ℕ) {a b : ℕ} → suc i < releases t → Untouched t a b → a ≤ i → i + 3 ≤ b → status t (suc i) ≡ 0
+  sound-all i {a} {b} l u first last =
+      let next = all-released t (suc i) l in
+      let before = mul-le-mul-left (8 * laneOctets (row 0 .gap)) first in
+      let after = mul-le-mul-left (8 * laneOctets (row 0 .gap)) last in
+      status-at t (suc i) next
+      ∙ untouched-status (row 0) heard-crc (t .octets) refl twelve i next (λ x p q. u x (omega arith) (omega arith))
 
 pub crc-tells-hits : CrcTellsHits
-crc-tells-hits E t damaged i q l h e = tells E t 12 4224 (omega arith) (omega arith) (omega arith) damaged i q l h e
+crc-tells-hits E t damaged i q l h e = tells t damaged (omega arith) (omega arith) (omega arith) i q l h e
 
 pub crc-sound-true : CrcSoundTrue
-crc-sound-true E t damaged i j l h e = sound-true E t 12 4224 (omega arith) (omega arith) (omega arith) damaged i j l h e
+crc-sound-true E t damaged i j l h e = sound-true t damaged (omega arith) (omega arith) (omega arith) i j l h e (omega arith)
 
 pub crc-untouched-sound : CrcUntouchedSound
-crc-untouched-sound E t damaged i after-first l u =
-    sound-all E t 12 4224 (omega arith) (omega arith) (omega arith) damaged i (omega arith) l u
+crc-untouched-sound E t damaged zero after-first l u = absurd (omega arith)
+crc-untouched-sound E t damaged (suc i) after-first l u = sound-all t damaged (omega arith) (omega arith) (omega arith) i l u (omega arith) (omega arith)
 
 -- ---- the premise, burst uniqueness, the locks, the dozen
 
@@ -91,7 +89,7 @@ pub one-set-only : OneSet
 one-set-only = one-set
 
 pub in-time : LocksInTime
-in-time = locks-in-time
+in-time E s calls sent p n inside h = locks-in-time E s calls sent p n inside (omega arith)
 
 pub dozen-right : DozenRight
 dozen-right = all-right

@@ -89,7 +89,7 @@ believed v trusted j h e = by trusted (v .status) h e
     by true zero h e = record { not-failed = λ z. absurd (omega arith); known = inl refl }
     by true (suc zero) h e = record { not-failed = λ z. absurd (omega arith); known = inl refl }
     by true (suc (suc zero)) h e = absurd (false-not-true e)
-    by false zero h e = record { not-failed = λ z. absurd (omega arith); known = inr (leb-true 8 j e) }
-    by false (suc zero) h e = record { not-failed = λ z. absurd (omega arith); known = inr (leb-true 8 j e) }
+    by false zero h e = record { not-failed = λ z. absurd (omega arith); known = inr (let l = leb-true _ j e in omega arith) }
+    by false (suc zero) h e = record { not-failed = λ z. absurd (omega arith); known = inr (let l = leb-true _ j e in omega arith) }
     by false (suc (suc zero)) h e = absurd (false-not-true e)
     by t (suc (suc (suc n))) h e = absurd (omega arith)
