@@ -10,7 +10,8 @@ use borrow.Author.Tests.{eq-eqb, ne-eqb}
 use lib.ListN.{length, take, drop, length-drop}
 use Rattle.bits.specs.Order.{bitAt, laid}
 use Rattle.frame.specs.Modes.{row}
-use Rattle.frame.proofs.Lane.{laneFrom, row-octets}
+use Rattle.frame.proofs.Lane.{laneFrom}
+use Rattle.frame.proofs.Sizes.{row-octets}
 use Rattle.receiver.specs.declared.Receiver.{Receiver}
 use Rattle.receiver.specs.declared.Received.{Received}
 use Rattle.receiver.specs.Release.{Step, waitingAt, run}
