@@ -6,8 +6,8 @@ use lib.Dec.{T, eqb, eqb→eq}
 use Rattle.bits.specs.Order.{run, number}
 use Rattle.bits.proofs.Tests.{left, right}
 use Rattle.scrambler.specs.Scrambling.{sentBit, allSent, sent}
-use Rattle.parity.specs.Polynomial.{scale, timesX}
-use Rattle.parity.specs.Remainder.{next, remainderFrom, remainder}
+use Rattle.polynomial.specs.Polynomial.{scale, timesX}
+use Rattle.polynomial.specs.Remainder.{next, remainderFrom, remainder}
 use Rattle.frame.specs.SyncWord.{held, syncWord}
 use Rattle.frame.specs.Dozen.{Case, found, wanted, dozen}
 

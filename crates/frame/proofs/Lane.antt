@@ -15,7 +15,6 @@ use Rattle.bits.proofs.Xor.{bit-cases}
 use Rattle.bits.proofs.Numbers.{bitAt-lt, digit-lt}
 use Rattle.bits.proofs.Octets.{length-octetsOf, bit-octetsOf, octetsOf-ext, octetsOf-bits}
 use Rattle.frame.specs.Headers.{value, carries, spoilt, headerOf}
-use Rattle.frame.specs.Modes.{crc12Row, fecRow, row}
 use Rattle.frame.specs.Lane.{blockWidth, laneOctets, headerPlace, dataPlace, dataBit, headerAt, syncBit, spoiltBit, dataOctets, blockBit, multiblockBit, multiblock}
 
 -- ---- a place of a run of blocks: its block, and where in the block
@@ -200,23 +199,3 @@ module _ (gap : ℕ) (f g : ℕ → ℕ) (m : ℕ) where
 pub length-data : (gap : ℕ) (lane : ℕ → ℕ) (m : ℕ) → length (dataOctets gap lane m) ≡ 256
 unfolding dataOctets
 length-data gap lane m = length-octetsOf (dataBit gap lane m) 256
-
--- ---- the modes have blocks of 66 bits, and one call takes 240 multiblocks at most
-
-pub row-gap : (mode : ℕ) → row mode .gap ≡ 0
-row-gap mode = either (eqb mode 1)
-  where
-    either : (b : Bool) → pick b fecRow crc12Row .gap ≡ 0
-    either true = refl
-    either false = refl
-
-pub row-octets : (mode : ℕ) → laneOctets (row mode .gap) ≡ 264
-unfolding laneOctets blockWidth
-row-octets mode = ap laneOctets (row-gap mode)
-
-pub row-most : (mode : ℕ) → row mode .most ≡ 240
-row-most mode = either (eqb mode 1)
-  where
-    either : (b : Bool) → pick b fecRow crc12Row .most ≡ 240
-    either true = refl
-    either false = refl

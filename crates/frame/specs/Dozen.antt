@@ -6,8 +6,8 @@ use lib.Dec.{eqb}
 use Rattle.bits.specs.Choice.{bitOf}
 use Rattle.bits.specs.Order.{run, number}
 use Rattle.scrambler.specs.Scrambling.{sent}
+use Rattle.polynomial.specs.Remainder.{remainder}
 use Rattle.parity.specs.Codeword.{Code, crc12, fec}
-use Rattle.parity.specs.Remainder.{remainder}
 use Rattle.frame.specs.Modes.{crc12Row, fecRow}
 use Rattle.frame.specs.SyncWord.{syncWord}
 

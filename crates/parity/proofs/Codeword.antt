@@ -10,11 +10,11 @@ use borrow.Author.Tests.{lt-ltb, le-ltb}
 use Rattle.bits.specs.Order.{run, number, bitsOf}
 use Rattle.bits.proofs.Xor.{odd-lt, xor-assoc, xor-swap}
 use Rattle.bits.proofs.Numbers.{number-first, number-lt, number-ext, number-whole}
-use Rattle.parity.specs.Polynomial.{scale, timesX, timesPower, power}
-use Rattle.parity.specs.Remainder.{next, remainderFrom, remainder}
+use Rattle.polynomial.specs.Polynomial.{scale, timesX, timesPower, power}
+use Rattle.polynomial.specs.Remainder.{next, remainderFrom, remainder}
+use Rattle.polynomial.proofs.Remainder.{remainder-lt}
+use Rattle.polynomial.proofs.Polynomial.{scale-xor, scale-lt, timesPower-xor, timesPower-zero, timesPower-scale, timesPower-in, timesPower-add, timesPower-lt, power-low, power-width}
 use Rattle.parity.specs.Codeword.{Code, parityOf, weight, codeword, weighed, remainderOf}
-use Rattle.parity.proofs.Remainder.{remainder-lt}
-use Rattle.parity.proofs.Polynomial.{scale-xor, scale-lt, timesPower-xor, timesPower-zero, timesPower-scale, timesPower-in, timesPower-add, timesPower-lt, power-low, power-width}
 
 module _ (C : Code) where
   -- the same positions set, the same sum

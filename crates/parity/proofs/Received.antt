@@ -8,7 +8,7 @@ use lib.Bits.{bitXor, xor-self}
 use lib.ListN.{length}
 use Rattle.bits.specs.Order.{bitAt, run}
 use Rattle.bits.proofs.Runs.{from-start}
-use Rattle.parity.specs.Remainder.{remainder}
+use Rattle.polynomial.specs.Remainder.{remainder}
 use Rattle.parity.specs.Codeword.{Code, parityOf, codeword, remainderOf}
 use Rattle.parity.proofs.Codeword.{data-part, parity-part, received, weighed-xor, weighed-ext}
 use Rattle.parity.proofs.Bursts.{Proper}

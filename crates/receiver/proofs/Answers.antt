@@ -13,7 +13,8 @@ use Rattle.bits.specs.Choice.{pick}
 use Rattle.bits.specs.Order.{bitAt, laid}
 use Rattle.frame.specs.Modes.{row}
 use Rattle.frame.specs.Lane.{laneOctets}
-use Rattle.frame.proofs.Lane.{laneFrom, row-octets}
+use Rattle.frame.proofs.Lane.{laneFrom}
+use Rattle.frame.proofs.Sizes.{row-octets}
 use Rattle.receiver.specs.declared.Receiver.{Receiver}
 use Rattle.receiver.specs.declared.Received.{Received}
 use Rattle.receiver.specs.Release.{Step, waitingAt, run}

@@ -15,7 +15,8 @@ use Rattle.bits.proofs.Parts.{not-refused, answered}
 use Rattle.frame.specs.Modes.{row}
 use Rattle.frame.specs.Lane.{dataOctets, syncBit, spoiltBit}
 use Rattle.frame.specs.SyncWord.{readParity, markedCommand}
-use Rattle.frame.proofs.Lane.{syncBit-lt, spoiltBit-lt, length-data, row-gap}
+use Rattle.frame.proofs.Lane.{syncBit-lt, spoiltBit-lt, length-data}
+use Rattle.frame.proofs.Sizes.{row-gap}
 use Rattle.frame.proofs.SyncWord.{row-stands, number-parity, number-marked}
 use Rattle.receiver.specs.Turn.{heardAt}
 

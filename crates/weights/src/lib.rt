@@ -1,7 +1,8 @@
 // The weights of the 2,074 positions of an FEC codeword: document 01, "Parity". Entry p is x^(2073-p) modulo the FEC polynomial.
 ghost use mathlib.Core.Path.{_≡_};
+ghost use Prim.Native.Nat.{_-_};
 ghost use Rattle.bits.specs.Order.{run};
-ghost use Rattle.parity.specs.Codeword.{fec, weight};
+ghost use Rattle.polynomial.specs.Polynomial.{power};
 
 const WEIGHTS: [u32; 2074] = [
     37028122,
@@ -2080,8 +2081,8 @@ const WEIGHTS: [u32; 2074] = [
     1,
 ];
 
-pub(crate) fn table() -> [u32; 2074]
-    ensures { λ r. ⌜ r ≡ run (weight fec) 0 2074 ⌝ }
+pub fn table() -> [u32; 2074]
+    ensures { λ r. ⌜ r ≡ run (λ p. power 26 0x0220211 (2073 - p)) 0 2074 ⌝ }
 {
     WEIGHTS
 }

@@ -9,11 +9,11 @@ use native.Mathlib.Decide.{decLe}
 use native.Mathlib.Omega.{arith}
 use lib.Dec.{T, leb, ltb, eqb, leb→le, ltb→lt, le→leb, lt→ltb, eqb→eq, T-not, lit<, lit≤}
 use lib.Pow.{pow-mono}
-use Rattle.parity.specs.Polynomial.{scale, timesX, timesPower}
-use Rattle.parity.proofs.Polynomial.{timesPower-add, timesPower-in}
-use Rattle.parity.proofs.Factor.{reduced, reduced-narrow, reduced-timesPower}
 use Rattle.bits.proofs.Tests.{both, left, right, every, every-at}
-use Rattle.parity.proofs.Cycle.{along, along-at, round, below, below-has}
+use Rattle.polynomial.specs.Polynomial.{scale, timesX, timesPower}
+use Rattle.polynomial.proofs.Polynomial.{timesPower-add, timesPower-in}
+use Rattle.polynomial.proofs.Factor.{reduced, reduced-narrow, reduced-timesPower}
+use Rattle.polynomial.proofs.Cycle.{along, along-at, round, below, below-has}
 
 -- ---- modulo x^17 + 1: a turn
 

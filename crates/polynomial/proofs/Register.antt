@@ -11,10 +11,10 @@ use lib.Bits.{bitXor, bitAnd, and-mask, xor-comm}
 use Rattle.bits.specs.Order.{digits}
 use Rattle.bits.proofs.Xor.{xor-assoc}
 use Rattle.bits.proofs.Runs.{bitsFrom, from-next, from-end, digits-octet}
-use Rattle.parity.specs.Polynomial.{scale, timesX}
-use Rattle.parity.specs.Remainder.{next, remainderFrom}
-use Rattle.parity.proofs.Polynomial.{scale-xor, scale-lt}
-use Rattle.parity.proofs.Remainder.{from-append}
+use Rattle.polynomial.specs.Polynomial.{scale, timesX}
+use Rattle.polynomial.specs.Remainder.{next, remainderFrom}
+use Rattle.polynomial.proofs.Polynomial.{scale-xor, scale-lt}
+use Rattle.polynomial.proofs.Remainder.{from-append}
 
 -- ---- what the shifts and masks come to
 

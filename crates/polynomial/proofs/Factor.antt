@@ -7,8 +7,8 @@ use lib.Arith.{lt-one}
 use lib.Pow.{pow-pos, split}
 use lib.Bits.{bitXor, xor-mod, xor-comm, xor-zero-r, xor-shifted, xor-block}
 use Rattle.bits.proofs.Xor.{bit-cases, odd-lt, xor-half, xor-swap}
-use Rattle.parity.specs.Polynomial.{scale, timesX, timesPower}
-use Rattle.parity.proofs.Polynomial.{scale-zero, scale-one, timesX-xor, timesX-zero, timesX-lt, timesX-low, top-lt, half-lt, timesPower-lt}
+use Rattle.polynomial.specs.Polynomial.{scale, timesX, timesPower}
+use Rattle.polynomial.proofs.Polynomial.{scale-zero, scale-one, timesX-xor, timesX-zero, timesX-lt, timesX-low, top-lt, half-lt, timesPower-lt}
 
 -- the k low bits of r, as a polynomial, modulo x^u + l
 unfoldable pub reduced : ℕ → ℕ → ℕ → ℕ → ℕ

@@ -6,9 +6,9 @@ use lib.Pow.{pow-pos}
 use lib.Bits.{bitXor, xor-lt, xor-shr, xor-mod}
 use Rattle.bits.specs.Order.{run, digits}
 use Rattle.bits.proofs.Xor.{xor-swap}
-use Rattle.parity.specs.Polynomial.{scale, timesX}
-use Rattle.parity.specs.Remainder.{next, remainderFrom, remainder}
-use Rattle.parity.proofs.Polynomial.{scale-xor, scale-lt, timesX-xor, timesX-lt}
+use Rattle.polynomial.specs.Polynomial.{scale, timesX}
+use Rattle.polynomial.specs.Remainder.{next, remainderFrom, remainder}
+use Rattle.polynomial.proofs.Polynomial.{scale-xor, scale-lt, timesX-xor, timesX-lt}
 
 module _ (w g : ℕ) where
   next-xor : (r s b c : ℕ) → next w g (bitXor r s) (bitXor b c) ≡ bitXor (next w g r b) (next w g s c)

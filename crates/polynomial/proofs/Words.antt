@@ -13,11 +13,10 @@ use Rattle.bits.specs.Order.{bitAt, bitsOf, run, number, digits}
 use Rattle.bits.proofs.Xor.{xor-swap}
 use Rattle.bits.proofs.Additive.{Additive, agree-test, shift-right, shift-left, shift-up, low-bits, after}
 use Rattle.bits.proofs.Runs.{run-append, digits-number}
-use Rattle.parity.specs.Polynomial.{scale, timesX}
-use Rattle.parity.specs.Remainder.{next, remainderFrom, remainder}
-use Rattle.parity.specs.Codeword.{fec, parityOf}
-use Rattle.parity.proofs.Remainder.{from-digits, from-append, from-lt}
 use Rattle.bits.proofs.Tests.{every}
+use Rattle.polynomial.specs.Polynomial.{scale, timesX}
+use Rattle.polynomial.specs.Remainder.{next, remainderFrom, remainder}
+use Rattle.polynomial.proofs.Remainder.{from-digits, from-append, from-lt}
 
 abbrev fecFrom : ℕ → List ℕ → ℕ
 fecFrom = remainderFrom 26 0x0220211
@@ -133,8 +132,8 @@ word-more f d i s word p e =
 
 -- the octets that fill no word
 pub words-rest : (octets : List ℕ) (count s : ℕ) → 8 * count ≤ length octets → s ≡ fecFrom 0 (run (bitAt octets) 0 (64 * count))
-    → fecFrom s (run (bitAt octets) (8 * (8 * count)) (8 * (length octets - 8 * count))) ≡ parityOf fec octets
-unfolding parityOf remainder bitsOf
+    → fecFrom s (run (bitAt octets) (8 * (8 * count)) (8 * (length octets - 8 * count))) ≡ remainder 26 0x0220211 (bitsOf octets)
+unfolding remainder bitsOf
 words-rest octets count s h p =
     ap (λ (r : ℕ). fecFrom r (run (bitAt octets) (8 * (8 * count)) (8 * (length octets - 8 * count)))) p
     ∙ before (bitAt octets) (64 * count) (8 * (length octets - 8 * count)) (8 * (8 * count)) (8 * length octets) (omega arith) (omega arith)

@@ -3,7 +3,7 @@
 use mathlib.Core.List.{List, [], _∷_}
 use Prim.Native.Nat.{ℕ}
 use lib.Bits.{bitXor}
-use Rattle.parity.specs.Polynomial.{scale, timesX}
+use Rattle.polynomial.specs.Polynomial.{scale, timesX}
 
 -- one bit more: what was there times x, and the bit times x^w, which is g
 unfoldable pub next : ℕ → ℕ → ℕ → ℕ → ℕ

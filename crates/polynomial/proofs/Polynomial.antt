@@ -8,7 +8,7 @@ use native.Mathlib.Omega.{arith}
 use lib.Pow.{pow-pos, pow-lt, split}
 use lib.Bits.{bitXor, xor-lt, xor-mod, xor-shr, xor-self, xor-zero-r}
 use Rattle.bits.proofs.Xor.{bit-cases, odd-lt, xor-odd, xor-swap, xor-eq, xor-double, xor-scale}
-use Rattle.parity.specs.Polynomial.{scale, timesX, timesPower, power}
+use Rattle.polynomial.specs.Polynomial.{scale, timesX, timesPower, power}
 
 -- ---- once or not at all
 

@@ -6,8 +6,8 @@ use Prim.Native.Nat.{ℕ, zero, suc, _+_, _*_, _<_}
 use native.Mathlib.Nat.{not-suc-le-zero, le-of-suc-le-suc, add-zero, add-suc, suc-add, zero-mul, suc-mul}
 use lib.Dec.{T, leb}
 use Rattle.bits.proofs.Tests.{left, right}
-use Rattle.parity.specs.Polynomial.{timesX, timesPower}
-use Rattle.parity.proofs.Polynomial.{timesPower-add, timesPower-in}
+use Rattle.polynomial.specs.Polynomial.{timesX, timesPower}
+use Rattle.polynomial.proofs.Polynomial.{timesPower-add, timesPower-in}
 
 module _ (w g : ℕ) where
   -- ---- a test at d and r, at d + 1 and x r, and so on, n of them
