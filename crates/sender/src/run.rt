@@ -33,7 +33,7 @@ fn send_one(mode: u8, e: u32, state: Sender, user: &[u8], command: u32, lane: &m
     ensures { λ _. ⌜ now (lane .exit) ≡ laid (sentOne (row mode) e state (now (user .entry)) command) (now (lane .entry)) ⌝ }
 {
     let mut octets = [0u8; 256];
-    let turned = frame::scrambler::scramble_multiblock(user, state.history, &mut octets[..]);
+    let turned = scrambler::scramble_multiblock(user, state.history, &mut octets[..]);
     let parity = parity_of(mode, &octets[..]);
     let next = state.number + 1;
     let last = next == e;

@@ -7,13 +7,13 @@ use native.Mathlib.Omega.{arith}
 use lib.ListN.{length}
 use denote.Ref.{now}
 use Rattle.bits.specs.Order.{bitAt, digit, number, octetsOf, laid, laidAt}
+use Rattle.bits.specs.Parts.{written}
 use Rattle.bits.proofs.Numbers.{bitAt-lt}
 use Rattle.bits.proofs.Laid.{laid-none, laid-word, length-laid-octets}
+use Rattle.bits.proofs.Parts.{few-given, few-lent, not-refused}
 use Rattle.frame.specs.Lane.{dataBit, syncBit, spoiltBit, dataOctets}
-use Rattle.frame.specs.Parts.{written}
 use Rattle.frame.proofs.Lane.{dataBit-lt}
 use Rattle.frame.proofs.Packing.{header-read, data-read, sync-more, spoilt-more}
-use Rattle.frame.proofs.Parts.{few-given, few-lent, not-refused}
 use Rattle.frame.proofs.multiblock.read.Statement.{statement}
 use Rattle.frame.proofs.multiblock.read.Tie as tie
 

@@ -7,11 +7,11 @@ use native.Mathlib.Omega.{arith}
 use lib.ListN.{length}
 use denote.Ref.{now}
 use Rattle.bits.specs.Order.{octetsOf, laid}
+use Rattle.bits.specs.Parts.{written}
 use Rattle.bits.proofs.Laid.{laid-none, length-laid-octets}
+use Rattle.bits.proofs.Parts.{few-given, few-lent, not-refused, untouched}
 use Rattle.frame.specs.Lane.{multiblock, multiblockBit, laneOctets, blockWidth}
-use Rattle.frame.specs.Parts.{written}
 use Rattle.frame.proofs.Packing.{four-more}
-use Rattle.frame.proofs.Parts.{few-given, few-lent, not-refused, untouched}
 use Rattle.frame.proofs.multiblock.write.Statement.{statement}
 use Rattle.frame.proofs.multiblock.write.Tie as tie
 
