@@ -38,7 +38,7 @@ fn send_one(mode: u8, e: u32, state: Sender, user: &[u8], command: u32, lane: &m
     let next = state.number + 1;
     let last = next == e;
     let sync = frame::sync::word(mode, state.parity, command, last);
-    frame::multiblock::write(sync, &octets[..], lane);
+    multiblock::write(sync, &octets[..], lane);
     Sender {
         history: turned.history,
         parity,

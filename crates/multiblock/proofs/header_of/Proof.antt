@@ -1,4 +1,4 @@
--- `frame::multiblock::header_of` meets its contract.
+-- `multiblock::header_of` meets its contract.
 -- Assumes nothing.
 use borrow.Author.Needs.{needs}
 use Prim.Native.Nat.{_-_}
@@ -7,10 +7,10 @@ use mathlib.Core.Bool.{Bool}
 use borrow.Author.Tests.{eq-eqb, ne-eqb}
 use Rattle.bits.specs.Choice.{pick}
 use Rattle.bits.specs.Order.{digit}
 use Rattle.frame.specs.Headers.{headerOf}
 use Rattle.frame.proofs.Packing.{sync-bit}
-use Rattle.frame.proofs.multiblock.header_of.Statement.{statement}
-use Rattle.frame.proofs.multiblock.header_of.Tie as tie
+use Rattle.multiblock.proofs.header_of.Statement.{statement}
+use Rattle.multiblock.proofs.header_of.Tie as tie
 
 sub-if1 : tie.Need-sub-if1
 sub-if1 c = search needs

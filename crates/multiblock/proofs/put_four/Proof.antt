@@ -1,4 +1,4 @@
--- `frame::multiblock::put_four` meets its contract.
+-- `multiblock::put_four` meets its contract.
 -- Assumes nothing.
 use borrow.Author.Needs.{needs}
 use Prim.Native.Nat.{_-_}
@@ -6,9 +6,9 @@ use native.Mathlib.Omega.{arith}
 use lib.ListN.{length-set}
 use denote.Ref.{now}
 use lib.Bits.{mask-lt}
 use Rattle.frame.proofs.Packing.{four-laid}
-use Rattle.frame.proofs.multiblock.put_four.Statement.{statement}
-use Rattle.frame.proofs.multiblock.put_four.Tie as tie
+use Rattle.multiblock.proofs.put_four.Statement.{statement}
+use Rattle.multiblock.proofs.put_four.Tie as tie
 
 mul-at : tie.Need-mul-at
 mul-at c = search needs

@@ -1,13 +1,13 @@
--- `frame::multiblock::carried` meets its contract.
+-- `multiblock::carried` meets its contract.
 -- Assumes nothing.
 use Prim.Native.Nat.{_-_}
 use mathlib.Core.Path.{sym, ap}
 use mathlib.Core.Bool.{Bool}
 use borrow.Author.Tests.{eq-eqb, ne-eqb}
 use Rattle.bits.specs.Choice.{pick}
 use Rattle.frame.specs.Headers.{carries}
-use Rattle.frame.proofs.multiblock.carried.Statement.{statement}
-use Rattle.frame.proofs.multiblock.carried.Tie as tie
+use Rattle.multiblock.proofs.carried.Statement.{statement}
+use Rattle.multiblock.proofs.carried.Tie as tie
 
 returns : tie.Need-returns
 unfolding carries

@@ -1,12 +1,12 @@
--- `frame::multiblock::data_at` meets its contract.
+-- `multiblock::data_at` meets its contract.
 -- Assumes nothing.
 use borrow.Author.Needs.{needs}
 use Prim.Native.Nat.{_+_, _-_, _*_, _/_, _%_}
 use native.Mathlib.Omega.{arith}
 use denote.Ref.{now}
 use Rattle.frame.proofs.Packing.{word-and-octet, word-and-octet-lt}
-use Rattle.frame.proofs.multiblock.data_at.Statement.{statement}
-use Rattle.frame.proofs.multiblock.data_at.Tie as tie
+use Rattle.multiblock.proofs.data_at.Statement.{statement}
+use Rattle.multiblock.proofs.data_at.Tie as tie
 
 mul-before : tie.Need-mul-before
 mul-before c = search needs

@@ -1,4 +1,4 @@
--- `frame::multiblock::invalid` meets its contract.
+-- `multiblock::invalid` meets its contract.
 -- Assumes nothing.
 use Prim.Native.Nat.{_-_}
 use mathlib.Core.Path.{sym, ap}
@@ -7,9 +7,9 @@ use borrow.Author.Tests.{eq-eqb, ne-eqb}
 use Rattle.bits.specs.Choice.{pick}
 use mathlib.Core.Path.{ap₂}
 use lib.Dec.{eqb}
 use Rattle.frame.specs.Headers.{spoilt}
-use Rattle.frame.proofs.multiblock.invalid.Statement.{statement}
-use Rattle.frame.proofs.multiblock.invalid.Tie as tie
+use Rattle.multiblock.proofs.invalid.Statement.{statement}
+use Rattle.multiblock.proofs.invalid.Tie as tie
 
 returns : tie.Need-returns
 unfolding spoilt

@@ -1,4 +1,4 @@
--- `frame::multiblock::read` meets its contract.
+-- `multiblock::read` meets its contract.
 -- Assumes nothing.
 use borrow.Author.Needs.{needs}
 use Prim.Native.Nat.{ℕ, _-_, _*_, _≤_}
@@ -11,11 +11,11 @@ use Rattle.bits.specs.Parts.{written}
 use Rattle.bits.proofs.Numbers.{bitAt-lt}
 use Rattle.bits.proofs.Laid.{laid-none, laid-word, length-laid-octets}
 use Rattle.bits.proofs.Parts.{few-given, few-lent, not-refused}
 use Rattle.frame.specs.Lane.{dataBit, syncBit, spoiltBit, dataOctets}
 use Rattle.frame.proofs.Lane.{dataBit-lt}
 use Rattle.frame.proofs.Packing.{header-read, data-read, sync-more, spoilt-more}
-use Rattle.frame.proofs.multiblock.read.Statement.{statement}
-use Rattle.frame.proofs.multiblock.read.Tie as tie
+use Rattle.multiblock.proofs.read.Statement.{statement}
+use Rattle.multiblock.proofs.read.Tie as tie
 
 abbrev Inv-loop : tie.InvT-loop
 Inv-loop lane octets₀ bits₀ bad₀ block₀ octets bits bad block =

@@ -1,12 +1,12 @@
--- `frame::multiblock::header_in` meets its contract.
+-- `multiblock::header_in` meets its contract.
 -- Assumes nothing.
 use borrow.Author.Needs.{needs}
 use Prim.Native.Nat.{_-_, _*_, _/_, _%_, _^_}
 use native.Mathlib.Omega.{arith}
 use lib.Bits.{mask-lt}
 use Rattle.frame.proofs.Packing.{two-bits}
-use Rattle.frame.proofs.multiblock.header_in.Statement.{statement}
-use Rattle.frame.proofs.multiblock.header_in.Tie as tie
+use Rattle.multiblock.proofs.header_in.Statement.{statement}
+use Rattle.multiblock.proofs.header_in.Tie as tie
 
 mul-result : tie.Need-mul-result
 mul-result c = search needs

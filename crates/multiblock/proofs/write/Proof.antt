@@ -1,4 +1,4 @@
--- `frame::multiblock::write` meets its contract.
+-- `multiblock::write` meets its contract.
 -- Assumes nothing.
 use borrow.Author.Needs.{needs}
 use Prim.Native.Nat.{ℕ, _-_, _*_, _≤_}
@@ -10,10 +10,10 @@ use Rattle.bits.specs.Order.{octetsOf, laid}
 use Rattle.bits.specs.Parts.{written}
 use Rattle.bits.proofs.Laid.{laid-none, length-laid-octets}
 use Rattle.bits.proofs.Parts.{few-given, few-lent, not-refused, untouched}
 use Rattle.frame.specs.Lane.{multiblock, multiblockBit, laneOctets, blockWidth}
 use Rattle.frame.proofs.Packing.{four-more}
-use Rattle.frame.proofs.multiblock.write.Statement.{statement}
-use Rattle.frame.proofs.multiblock.write.Tie as tie
+use Rattle.multiblock.proofs.write.Statement.{statement}
+use Rattle.multiblock.proofs.write.Tie as tie
 
 abbrev Inv-loop : tie.InvT-loop
 Inv-loop sync octets lane₀ four₀ lane four = (four ≤ 8) × (lane ≡ laid (octetsOf (multiblockBit 0 sync octets) (33 * four)) lane₀)
