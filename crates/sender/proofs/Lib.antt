@@ -4,3 +4,4 @@ pub mod States
 pub mod Given
 pub mod Turns
 pub mod Entry
+pub mod Refusals
