@@ -5,3 +5,4 @@ pub mod Given
 pub mod Turns
 pub mod Entry
 pub mod Multiblocks
+pub mod Refusals
