@@ -1,0 +1,3 @@
+-- What the entries promise to callers in C.
+pub mod Receiving
+pub mod Locking
