@@ -158,7 +158,7 @@ fn write_case(seed: u64, mode: u8, n: usize, kind: u64, count: usize) {
 fn write_longest(count: usize, statuses: &[u8])
     requires { ⌜ count ≤ length (now statuses) ⌝ }
 {
-    let span = receiver::longest::span_of(&statuses[0..count]);
+    let span = longest::span_of(&statuses[0..count]);
     text::write_number(b" ", span.start as u64);
     text::write_number(b" ", span.count as u64);
 }

@@ -10,4 +10,3 @@ pub mod Hearing
 pub mod Turns
 pub mod Answers
 pub mod Afresh
-pub mod Spans

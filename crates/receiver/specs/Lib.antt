@@ -4,5 +4,4 @@ pub mod Release
 pub mod Refusal
 pub mod Entry
 pub mod Sound
-pub mod Longest
 pub mod Turn

@@ -1,6 +1,4 @@
 // The receiver: lane octets to user octets, with what became of each multiblock. Document 01, "What the receiver releases".
-pub mod longest;
-
 ghost use mathlib.Core.Path.{_≡_};
 ghost use Rattle.receiver.specs.Release.{fresh};
 ghost use Rattle.receiver.specs.Entry.{done, entry};

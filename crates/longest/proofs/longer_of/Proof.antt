@@ -1,9 +1,9 @@
--- `receiver::longest::longer_of` meets its contract: by its one test.
+-- `longest::longer_of` meets its contract: by its one test.
 -- Assumes nothing.
 use borrow.Author.Tests.{le-ltb, lt-ltb}
-use Rattle.receiver.specs.Longest.{longer}
-use Rattle.receiver.proofs.longest.longer_of.Statement.{statement}
-use Rattle.receiver.proofs.longest.longer_of.Tie as tie
+use Rattle.longest.specs.Longest.{longer}
+use Rattle.longest.proofs.longer_of.Statement.{statement}
+use Rattle.longest.proofs.longer_of.Tie as tie
 
 returns : tie.Need-returns
 unfolding longer

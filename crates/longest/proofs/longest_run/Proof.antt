@@ -1,4 +1,4 @@
--- `receiver::longest::longest_run` meets its contract: a walk of its MIR, by hand, since its answer holds a reference. Two covered functions are
+-- `longest::longest_run` meets its contract: a walk of its MIR, by hand, since its answer holds a reference. Two covered functions are
 -- called on the slices, and the answer is made of what they return. A `&[u8]` is Copy: what each slice owns is had again at each call, and one copy
 -- is kept for the exit. Assumes nothing.
 use mathlib.Core.Path.{_≡_, refl}
@@ -42,22 +42,22 @@ use denote.Triple.Table.{entered, cited}
 use denote.Triple.Walked.{says, Stays, stay-none-slice, walkOf, goes-none-slice, Walks, ends-at, walked, walk-meets}
 use denote.Exit.{yes}
 use denote.Triple.Clauses.{ensured, lasts}
-use Rattle.receiver.specs.Longest.{partOf, refusalFor}
-use Rattle.receiver.specs.declared.longest.Run.{Run}
-use Rattle.receiver.proofs.longest.Run as T
-use Rattle.receiver.proofs.longest.Run.Laws as T′
-use Rattle.receiver.proofs.longest.part as part
-use Rattle.receiver.proofs.longest.part.Symbol as part-def
-use Rattle.receiver.proofs.longest.part.Symbol.{name as #part}
-use Rattle.receiver.proofs.longest.part.Met as part-thm
-use Rattle.receiver.proofs.longest.refusal_for as refuse
-use Rattle.receiver.proofs.longest.refusal_for.Symbol as refuse-def
-use Rattle.receiver.proofs.longest.refusal_for.Symbol.{name as #refuse}
-use Rattle.receiver.proofs.longest.refusal_for.Met as refuse-thm
-use Rattle.receiver.proofs.longest.longest_run.Key.{name as #longest-run}
-use Rattle.receiver.proofs.longest.longest_run as longest-run
-use Rattle.receiver.proofs.longest.longest_run.Statement as stated
-use Rattle.receiver.proofs.longest.longest_run.Code as code
+use Rattle.longest.specs.Longest.{partOf, refusalFor}
+use Rattle.longest.specs.declared.Run.{Run}
+use Rattle.longest.proofs.Run as T
+use Rattle.longest.proofs.Run.Laws as T′
+use Rattle.longest.proofs.part as part
+use Rattle.longest.proofs.part.Symbol as part-def
+use Rattle.longest.proofs.part.Symbol.{name as #part}
+use Rattle.longest.proofs.part.Met as part-thm
+use Rattle.longest.proofs.refusal_for as refuse
+use Rattle.longest.proofs.refusal_for.Symbol as refuse-def
+use Rattle.longest.proofs.refusal_for.Symbol.{name as #refuse}
+use Rattle.longest.proofs.refusal_for.Met as refuse-thm
+use Rattle.longest.proofs.longest_run.Key.{name as #longest-run}
+use Rattle.longest.proofs.longest_run as longest-run
+use Rattle.longest.proofs.longest_run.Statement as stated
+use Rattle.longest.proofs.longest_run.Code as code
 
 -- the answer's type and its laws, over the signature's lifetimes
 abbrev D : Lfts 2 → Declared
@@ -225,5 +225,5 @@ longest-run-spec 𝓤 H 𝓜 𝓖 𝓡 =
     entered 𝓤 H (tripleOf 𝓤 H (𝓖 .A) longest-run.signature (longest-run.spec 𝓤 H (𝓖 .A) (𝓜 .mem) (𝓡 .run)))
     (tables 𝓤 H 𝓜 𝓡 code.env .C) (tables 𝓤 H 𝓜 𝓡 code.env .Λ) #longest-run code.function (code.unfolded 𝓤 H 𝓜 𝓡)
     (longest-run-meets 𝓤 H (𝓖 .A) (givenOf 𝓤 H 𝓜 𝓖) (𝓜 .mem) (𝓡 .run) (tablesOf 𝓤 H 𝓜 (tables 𝓤 H 𝓜 𝓡 code.env))
-    (cited 𝓤 H (Part 𝓤 H (𝓖 .A) (𝓜 .mem) (𝓡 .run)) 𝓜 𝓡 code.env #part part-def.routine code.calls-receiver·longest·part (part-thm.met 𝓤 H 𝓜 𝓖 𝓡))
-    (cited 𝓤 H (Refuse 𝓤 H (𝓖 .A) (𝓜 .mem) (𝓡 .run)) 𝓜 𝓡 code.env #refuse refuse-def.routine code.calls-receiver·longest·refusal-for (refuse-thm.met 𝓤 H 𝓜 𝓖 𝓡)))
+    (cited 𝓤 H (Part 𝓤 H (𝓖 .A) (𝓜 .mem) (𝓡 .run)) 𝓜 𝓡 code.env #part part-def.routine code.calls-longest·part (part-thm.met 𝓤 H 𝓜 𝓖 𝓡))
+    (cited 𝓤 H (Refuse 𝓤 H (𝓖 .A) (𝓜 .mem) (𝓡 .run)) 𝓜 𝓡 code.env #refuse refuse-def.routine code.calls-longest·refusal-for (refuse-thm.met 𝓤 H 𝓜 𝓖 𝓡)))

@@ -13,8 +13,8 @@ use lib.Dec.{ltb, leb, eqb}
 use lib.ListN.{length, getD, take, drop}
 use lib.Seq.{drop-cons, drop-length}
 use Rattle.bits.specs.Choice.{pick}
-use Rattle.receiver.specs.declared.longest.Span.{Span}
-use Rattle.receiver.specs.Longest.{Stretch, Longest, startAfter, longer, scan, spanOf, noSpan, refusalFor, partOf}
+use Rattle.longest.specs.declared.Span.{Span}
+use Rattle.longest.specs.Longest.{Stretch, Longest, startAfter, longer, scan, spanOf, noSpan, refusalFor, partOf}
 
 -- no two runs are the longest
 pub one-longest : (statuses : List ℕ) {a m b n : ℕ} → Longest statuses a m → Longest statuses b n → (a ≡ b) × (m ≡ n)

@@ -1,4 +1,4 @@
--- `receiver::longest::refusal_for` meets its contract: no remainder, and as many multiblocks as statuses, is 256 octets for each.
+-- `longest::refusal_for` meets its contract: no remainder, and as many multiblocks as statuses, is 256 octets for each.
 -- Assumes nothing.
 use Prim.Native.Nat.{_*_}
 use mathlib.Core.Path.{_≡_}
@@ -6,9 +6,9 @@ use native.Mathlib.Omega.{arith}
 use borrow.Author.Tests.{eq-eqb, ne-eqb}
 use lib.ListN.{length}
 use denote.Ref.{now}
-use Rattle.receiver.specs.Longest.{refusalFor}
-use Rattle.receiver.proofs.longest.refusal_for.Statement.{statement}
-use Rattle.receiver.proofs.longest.refusal_for.Tie as tie
+use Rattle.longest.specs.Longest.{refusalFor}
+use Rattle.longest.proofs.refusal_for.Statement.{statement}
+use Rattle.longest.proofs.refusal_for.Tie as tie
 
 returns : tie.Need-returns
 unfolding refusalFor

@@ -1,6 +1,6 @@
 // The longest run of multiblocks with status 0 or 1, handed back as that part of the caller's octets. Document 01, "What the receiver releases".
 ghost use mathlib.Core.Path.{_≡_};
-ghost use Rattle.receiver.specs.Longest.{longer, spanOf, partOf, refusalFor};
+ghost use Rattle.longest.specs.Longest.{longer, spanOf, partOf, refusalFor};
 
 // Multiblocks in a row: the first, and how many.
 pub struct Span {

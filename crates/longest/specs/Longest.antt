@@ -5,7 +5,7 @@ use Prim.Native.Nat.{ℕ, _+_, _-_, _*_, _≤_, _<_}
 use lib.Dec.{ltb, leb, eqb}
 use lib.ListN.{length, getD, take, drop}
 use Rattle.bits.specs.Choice.{pick}
-use Rattle.receiver.specs.declared.longest.Span.{Span}
+use Rattle.longest.specs.declared.Span.{Span}
 
 -- multiblocks in a row, each of status 0 or 1
 pub record Stretch (statuses : List ℕ) (start count : ℕ) : Type 0 where

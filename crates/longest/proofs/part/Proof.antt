@@ -1,12 +1,12 @@
--- `receiver::longest::part` meets its contract: the longest run lies within the statuses, so its octets within the octets.
+-- `longest::part` meets its contract: the longest run lies within the statuses, so its octets within the octets.
 -- Assumes nothing.
 use borrow.Author.Needs.{needs}
 use mathlib.Core.Path.{sym, _∙_}
 use native.Mathlib.Omega.{arith}
 use denote.Ref.{now}
-use Rattle.receiver.proofs.Spans.{in-octets, part-given, part-refused}
-use Rattle.receiver.proofs.longest.part.Statement.{statement}
-use Rattle.receiver.proofs.longest.part.Tie as tie
+use Rattle.longest.proofs.Spans.{in-octets, part-given, part-refused}
+use Rattle.longest.proofs.part.Statement.{statement}
+use Rattle.longest.proofs.part.Tie as tie
 
 refusal-for-requires : tie.Need-refusal-for-requires
 refusal-for-requires c κs = search needs

@@ -1,4 +1,4 @@
--- `receiver::longest::span_of` meets its contract: what is left to scan, from what is known so far, gives the whole answer.
+-- `longest::span_of` meets its contract: what is left to scan, from what is known so far, gives the whole answer.
 -- Assumes nothing.
 use borrow.Author.Needs.{needs}
 use Prim.Native.Nat.{_+_, _-_, _≤_, _<_}
@@ -7,10 +7,10 @@ use mathlib.Core.Logic.{⊎-elim}
 use native.Mathlib.Omega.{arith}
 use lib.ListN.{length, getD, drop}
 use denote.Ref.{now}
-use Rattle.receiver.specs.Longest.{startAfter, scan, spanOf}
-use Rattle.receiver.proofs.Spans.{keeps-run, ends-run, scan-on, scan-over}
-use Rattle.receiver.proofs.longest.span_of.Statement.{statement}
-use Rattle.receiver.proofs.longest.span_of.Tie as tie
+use Rattle.longest.specs.Longest.{startAfter, scan, spanOf}
+use Rattle.longest.proofs.Spans.{keeps-run, ends-run, scan-on, scan-over}
+use Rattle.longest.proofs.span_of.Statement.{statement}
+use Rattle.longest.proofs.span_of.Tie as tie
 
 abbrev Inv-loop : tie.InvT-loop
 Inv-loop statuses best₀ start₀ i₀ best start i = (i ≤ length statuses) × (start ≤ i) × (scan (drop i statuses) i start best ≡ spanOf statuses)

@@ -1,0 +1,2 @@
+-- Laws of the longest run: the only one.
+pub mod Spans

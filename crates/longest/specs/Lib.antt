@@ -1,0 +1,2 @@
+-- The longest run of multiblocks with status 0 or 1.
+pub mod Longest
