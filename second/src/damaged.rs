@@ -41,7 +41,7 @@ struct Outcome {
 }
 
 /// Every lane bit of a set flipped.
-fn flipped(lane: &[u8], places: &[usize]) -> Vec<u8> {
+pub fn flipped(lane: &[u8], places: &[usize]) -> Vec<u8> {
     let mut all = bits::of_octets(lane);
     for place in places {
         all[*place] ^= true;

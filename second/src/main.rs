@@ -2,10 +2,12 @@
 //! and parity by long division of polynomials (clauses 7.4.2 and 7.5.2).
 //! `second tables` prints Tables 37, 52, 54 and 55 and a spread of sync words; `second misprint` and `second bursts`
 //! print what can be found by trying every case. `second lanes`, `second damaged` and `second locks` print a line for
-//! each seeded case of the sender, of the receiver and of the lock machines.
+//! each seeded case of the sender, of the receiver and of the lock machines. `second captures` prints named captures one
+//! after another, `second capture NAME` one of them, and `second listings` the listings of those on standard input.
 
 mod bits;
 mod bursts;
+mod captures;
 mod cases;
 mod code;
 mod damaged;
@@ -13,6 +15,7 @@ mod digest;
 mod frame;
 mod generator;
 mod lanes;
+mod listing;
 mod lock;
 mod locks;
 mod longest;
@@ -26,19 +29,34 @@ mod sync;
 mod tables;
 mod words;
 
+use std::io::{stdin, stdout, Read, Write};
 use std::process::ExitCode;
 
-const USAGE: &str = "usage: second tables | misprint | bursts | lanes | damaged | locks";
+const USAGE: &str =
+    "usage: second tables | misprint | bursts | lanes | damaged | locks | captures | capture NAME | listings <CAPTURES";
+
+fn text(lines: &[String]) -> Vec<u8> {
+    lines.iter().flat_map(|line| format!("{line}\n").into_bytes()).collect()
+}
+
+fn standard_input() -> Option<Vec<u8>> {
+    let mut octets = vec![];
+    stdin().read_to_end(&mut octets).ok().map(|_| octets)
+}
 
 /// What the arguments ask for, or nothing if they ask for nothing known.
-fn answer(arguments: &[String]) -> Option<Vec<String>> {
-    match arguments {
-        [word] if word == "tables" => Some([tables::lines(), words::lines()].concat()),
-        [word] if word == "misprint" => Some(misprint::lines()),
-        [word] if word == "bursts" => Some(bursts::lines()),
-        [word] if word == "lanes" => Some(lanes::lines()),
-        [word] if word == "damaged" => Some(damaged::lines()),
-        [word] if word == "locks" => Some(locks::lines()),
+fn answer(arguments: &[String]) -> Option<Vec<u8>> {
+    let words: Vec<&str> = arguments.iter().map(String::as_str).collect();
+    match words[..] {
+        ["tables"] => Some(text(&[tables::lines(), words::lines()].concat())),
+        ["misprint"] => Some(text(&misprint::lines())),
+        ["bursts"] => Some(text(&bursts::lines())),
+        ["lanes"] => Some(text(&lanes::lines())),
+        ["damaged"] => Some(text(&damaged::lines())),
+        ["locks"] => Some(text(&locks::lines())),
+        ["captures"] => Some(captures::packed(&captures::cases())),
+        ["capture", name] => captures::named(name),
+        ["listings"] => listing::listings(&standard_input()?).map(String::into_bytes),
         _ => None,
     }
 }
@@ -46,12 +64,8 @@ fn answer(arguments: &[String]) -> Option<Vec<String>> {
 fn main() -> ExitCode {
     let arguments: Vec<String> = std::env::args().skip(1).collect();
     match answer(&arguments) {
-        Some(lines) => {
-            for line in lines {
-                println!("{line}");
-            }
-            ExitCode::SUCCESS
-        }
+        Some(octets) if stdout().write_all(&octets).is_ok() => ExitCode::SUCCESS,
+        Some(_) => ExitCode::FAILURE,
         None => {
             eprintln!("{USAGE}");
             ExitCode::from(2)

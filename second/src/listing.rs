@@ -1,0 +1,101 @@
+//! Captures and their listings (document 01, "Capture and listing"). A capture is two sections, each after its count in
+//! four octets, highest first: mode and E in two octets, and the lane's octets. Nothing follows.
+//!
+//! `second listings` reads named captures on standard input, one after another, the name and the capture as a section
+//! each, and prints for each its name with a colon on a line, and its listing.
+
+use crate::mode::{is_extent, LANE_OCTETS};
+use crate::receiver::{receive, Lent, Receiver};
+
+const MOST_OCTETS: usize = 63_371;
+const NAMES: [&str; 2] = ["crc12", "fec"];
+
+/// The section at the start, and what follows it.
+fn section(octets: &[u8]) -> Option<(&[u8], &[u8])> {
+    let (count, rest) = octets.split_first_chunk()?;
+    rest.split_at_checked(u32::from_be_bytes(*count) as usize)
+}
+
+/// The settings and the lane of a capture, if it has the form.
+fn sections(capture: &[u8]) -> Option<([u8; 3], &[u8])> {
+    let (settings, rest) = section(capture)?;
+    let (lane, after) = section(rest)?;
+    let fits = after.is_empty() && capture.len() <= MOST_OCTETS;
+    settings.try_into().ok().filter(|_| fits).map(|settings| (settings, lane))
+}
+
+/// The lines of a listing, or the number by which the capture is refused.
+fn lines(capture: &[u8]) -> Result<Vec<String>, u8> {
+    let ([mode, e_high, e_low], lane) = sections(capture).ok_or(8)?;
+    let name = NAMES.get(usize::from(mode)).ok_or(1)?;
+    let e = u16::from_be_bytes([e_high, e_low]);
+    if !is_extent(u32::from(e)) {
+        return Err(2);
+    }
+    let multiblocks = lane.len() / LANE_OCTETS;
+    let mut lent = Lent::room_for(multiblocks);
+    let received = receive(mode, Receiver::fresh(), lane, &mut lent);
+    if received.refusal != 0 {
+        return Err(received.refusal);
+    }
+    let head = format!("{name} {e} {multiblocks} {}", received.count);
+    let line = |k: usize| format!("{k} {} {} {}", lent.statuses[k], lent.places[k], lent.patterns[k]);
+    Ok([head].into_iter().chain((0..received.count).map(line)).collect())
+}
+
+/// What `lanelist` prints of a capture.
+pub fn listing(capture: &[u8]) -> String {
+    let lines = lines(capture).unwrap_or_else(|refusal| vec![format!("refused {refusal}")]);
+    lines.iter().map(|line| format!("{line}\n")).collect()
+}
+
+/// The listings of named captures, or nothing if the last one is cut short.
+pub fn listings(packed: &[u8]) -> Option<String> {
+    let mut text = String::new();
+    let mut rest = packed;
+    while !rest.is_empty() {
+        let (name, after) = section(rest)?;
+        let (capture, after) = section(after)?;
+        text += &format!("{}:\n{}", String::from_utf8_lossy(name), listing(capture));
+        rest = after;
+    }
+    Some(text)
+}
+
+#[cfg(test)]
+mod tests {
+    use super::{listing, listings};
+    use crate::captures::{capture, cases, packed};
+
+    #[test]
+    fn the_documents_own_example() {
+        let lane = crate::cases::Input { mode: 1, e: 1, user: vec![0; 512], commands: vec![0; 2] }.lane();
+        assert_eq!(listing(&capture(1, 1, &lane)), "fec 1 2 1\n0 4 0 0\n");
+    }
+
+    #[test]
+    fn the_form_goes_before_the_table() {
+        let lane = [0; 264];
+        assert_eq!(listing(&capture(2, 0, &lane[..263])), "refused 1\n");
+        assert_eq!(listing(&capture(1, 0, &lane[..263])), "refused 2\n");
+        assert_eq!(listing(&capture(1, 1, &lane[..263])), "refused 4\n");
+        assert_eq!(listing(&[capture(2, 0, &lane), vec![0]].concat()), "refused 8\n");
+        assert_eq!(listing(&capture(2, 1, &[0; 264 * 240 + 1])), "refused 8\n");
+    }
+
+    #[test]
+    fn a_capture_cut_anywhere_is_refused() {
+        let whole = capture(0, 1, &[0; 528]);
+        assert!((0..whole.len()).all(|cut| listing(&whole[..cut]) == "refused 8\n"));
+        assert_eq!(listing(&whole), "crc12 1 2 1\n0 4 0 0\n");
+    }
+
+    #[test]
+    fn packed_captures_are_listed_one_after_another() {
+        let cases = cases();
+        let each: String = cases.iter().map(|case| format!("{}:\n{}", case.name, listing(&case.capture))).collect();
+        let packed = packed(&cases);
+        assert_eq!(listings(&packed), Some(each));
+        assert_eq!(listings(&packed[..packed.len() - 1]), None);
+    }
+}
