@@ -3,12 +3,21 @@ ghost use mathlib.Core.Path.{_≡_};
 ghost use Rattle.sender.specs.Lane.{fresh};
 ghost use Rattle.sender.specs.Entry.{done as sent, entry};
 ghost use Rattle.capture.specs.Listing.{done as written, listed};
+ghost use Rattle.zaytulobe.specs.Running.{ran};
 use capture::Listed;
 use sender::Sender;
 use sender::Sent;
 
 pub mod locking;
 pub mod receiving;
+
+// A refusal, or 0 with the longest run in multiblocks: the first, and how many.
+#[repr(C)]
+pub struct RunNumbers {
+    pub refusal: u8,
+    pub start: usize,
+    pub count: usize,
+}
 
 // A sender's first state.
 #[no_mangle]
@@ -31,6 +40,27 @@ pub extern "C" fn zaytulobe_send(
     ensures { λ r. ⌜ sent r (now (lane .exit)) ≡ entry mode e state (now (user .entry)) (now (commands .entry)) (now (lane .entry)) ⌝ }
 {
     sender::send(mode, e, state, user, commands, lane)
+}
+
+// The longest run of multiblocks with status 0 or 1, in numbers.
+#[no_mangle]
+pub extern "C" fn zaytulobe_longest_run(octets: &[u8], statuses: &[u8]) -> RunNumbers
+    ensures { λ r. ⌜ r ≡ ran (now (octets .entry)) (now (statuses .entry)) ⌝ }
+{
+    let refusal = longest::refusal_for(octets, statuses);
+    if refusal != 0 {
+        return RunNumbers {
+            refusal,
+            start: 0,
+            count: 0,
+        };
+    }
+    let span = longest::span_of(statuses);
+    RunNumbers {
+        refusal: 0,
+        start: span.start,
+        count: span.count,
+    }
 }
 
 // The listing of a capture, over the start of `text`.
