@@ -131,9 +131,9 @@ static void print_promise_crc12(void) {
 static size header_carrying(u8 mode, size multiblock, int carried) {
     size position = DATA_BITS + 4;
     for (;; position++) {
-        size bit = MULTIBLOCK_BITS * BEFORE + place_of(mode, multiblock, position);
-        if ((lane[bit / 8] >> (7 - bit % 8) & 1) != carried)
-            return place_of(mode, multiblock, position);
+        size bit = place_of(mode, multiblock, position);
+        if (lane_bit(MULTIBLOCK_BITS * BEFORE + bit) != carried)
+            return bit;
     }
 }
 
@@ -234,7 +234,7 @@ static void run_neighbours(void) {
 static void lose_bit(size lost) {
     size start = MULTIBLOCK_BITS * BEFORE;
     for (size bit = start + lost; bit + 1 < start + BITS; bit++)
-        if ((lane[bit / 8] >> (7 - bit % 8) & 1) != (lane[(bit + 1) / 8] >> (7 - (bit + 1) % 8) & 1))
+        if (lane_bit(bit) != lane_bit(bit + 1))
             flip_bit(bit);
 }
 

@@ -12,33 +12,38 @@ static void try_flips(u8 mode, const char *label, size first, size count, size s
         flip_position(mode, 2, first + step * k);
     memset(&out, UNTOUCHED, sizeof out);
     receive(mode, zaytulobe_fresh_receiver(), 0, 5, &out, 0);
-    printf("%s, multiblock 2, %s: ", name_of(mode), label);
+    printf("  %s: ", label);
     print_release(&out, 2, 2);
-    printf("; multiblock 3: ");
+    printf("; the next: ");
     print_release(&out, 3, 3);
     printf("\n");
 }
 
-static void run_bursts(void) {
-    try_flips(FEC, "no flips", 0, 0, 1);
-    try_flips(FEC, "codeword positions 0 to 8 flipped", 0, 9, 1);
-    try_flips(FEC, "codeword positions 2065 to 2073 flipped, all parity", 2065, 9, 1);
-    try_flips(FEC, "codeword positions 0 and 8 flipped", 0, 2, 8);
-    try_flips(FEC, "codeword positions 2065 and 2073 flipped, both parity", 2065, 2, 8);
-    try_flips(FEC, "codeword positions 0 to 9 flipped", 0, 10, 1);
-    try_flips(FEC, "codeword positions 2064 to 2073 flipped, all parity", 2064, 10, 1);
-    try_flips(FEC, "codeword positions 0 and 9 flipped", 0, 2, 9);
-    try_flips(FEC, "codeword positions 2064 and 2073 flipped, both parity", 2064, 2, 9);
-    try_flips(FEC, "codeword position 2047 flipped, the last of the data", 2047, 1, 1);
-    try_flips(FEC, "codeword position 2048 flipped, the first of the parity", 2048, 1, 1);
-    try_flips(FEC, "codeword positions 2044 to 2052 flipped, data and parity", 2044, 9, 1);
-    try_flips(FEC, "codeword positions 0 and 2073 flipped, which no burst wraps round", 0, 2, 2073);
-    try_flips(CRC12, "no flips", 0, 0, 1);
-    try_flips(CRC12, "codeword positions 0 to 8 flipped", 0, 9, 1);
-    try_flips(CRC12, "codeword positions 2051 to 2059 flipped, all parity", 2051, 9, 1);
-    try_flips(CRC12, "codeword positions 0 to 9 flipped", 0, 10, 1);
-    try_flips(CRC12, "codeword positions 2050 to 2059 flipped, all parity", 2050, 10, 1);
-    try_flips(CRC12, "codeword position 2047 flipped, the last of the data", 2047, 1, 1);
+static void run_bursts_fec(void) {
+    printf("FEC, a multiblock with flips at positions of its codeword:\n");
+    try_flips(FEC, "none", 0, 0, 1);
+    try_flips(FEC, "0 to 8", 0, 9, 1);
+    try_flips(FEC, "2065 to 2073, all parity", 2065, 9, 1);
+    try_flips(FEC, "0 and 8", 0, 2, 8);
+    try_flips(FEC, "2065 and 2073, both parity", 2065, 2, 8);
+    try_flips(FEC, "0 to 9", 0, 10, 1);
+    try_flips(FEC, "2064 to 2073, all parity", 2064, 10, 1);
+    try_flips(FEC, "0 and 9", 0, 2, 9);
+    try_flips(FEC, "2064 and 2073, both parity", 2064, 2, 9);
+    try_flips(FEC, "2047, the last of the data", 2047, 1, 1);
+    try_flips(FEC, "2048, the first of the parity", 2048, 1, 1);
+    try_flips(FEC, "2044 to 2052, data and parity", 2044, 9, 1);
+    try_flips(FEC, "0 and 2073, since no burst wraps", 0, 2, 2073);
+}
+
+static void run_bursts_crc12(void) {
+    printf("CRC-12, a multiblock with flips at positions of its codeword:\n");
+    try_flips(CRC12, "none", 0, 0, 1);
+    try_flips(CRC12, "0 to 8", 0, 9, 1);
+    try_flips(CRC12, "2051 to 2059, all parity", 2051, 9, 1);
+    try_flips(CRC12, "0 to 9", 0, 10, 1);
+    try_flips(CRC12, "2050 to 2059, all parity", 2050, 10, 1);
+    try_flips(CRC12, "2047, the last of the data", 2047, 1, 1);
 }
 
 static int same_state(struct zaytulobe_receiver one, struct zaytulobe_receiver other) {
@@ -281,7 +286,8 @@ static void run_longest(void) {
 }
 
 int main(void) {
-    run_bursts();
+    run_bursts_fec();
+    run_bursts_crc12();
     run_counts(CRC12);
     run_counts(FEC);
     run_modes();
