@@ -41,8 +41,8 @@ static inline void stop(const char *why) {
     exit(1);
 }
 
-/* The lane that a fresh sender makes of the first user octets, so many multiblocks, in calls of at most 240. */
-static inline void send_user(u8 mode, u32 e, size multiblocks) {
+/* The lane that a fresh sender makes of the first user octets, so many multiblocks, in calls of at most 240; its end state. */
+static inline struct zaytulobe_sender send_user(u8 mode, u32 e, size multiblocks) {
     struct zaytulobe_sender state = zaytulobe_fresh_sender();
     for (size k = 0; k < multiblocks; k++)
         sent_commands[k] = mode == FEC ? 0 : (u32)(37 * k % 128);
@@ -55,13 +55,14 @@ static inline void send_user(u8 mode, u32 e, size multiblocks) {
             stop("the sender refused");
         state = sent.state;
     }
+    return state;
 }
 
 /* Such a lane of user octets without a plan. */
-static inline void make_lane(u8 mode, u32 e, size multiblocks) {
+static inline struct zaytulobe_sender make_lane(u8 mode, u32 e, size multiblocks) {
     for (size k = 0; k < USER_OCTETS * multiblocks; k++)
         user[k] = (u8)(k * k / 5 + k / 256);
-    send_user(mode, e, multiblocks);
+    return send_user(mode, e, multiblocks);
 }
 
 static inline u8 lane_bit(size bit) {
