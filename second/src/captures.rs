@@ -202,6 +202,7 @@ fn too_long() -> Vec<Case> {
     let longer = |range: Range<usize>| [&lane[..], &lane[range]].concat();
     vec![
         case("octets-63372", capture(CRC12, 7, &longer(0..1))),
+        case("octets-63371-one-octet-after", [capture(CRC12, 7, &lane), vec![0]].concat()),
         case("octets-63372-mode-2", capture(2, 7, &longer(0..1))),
         case("241-multiblocks", capture(CRC12, 7, &longer(0..LANE_OCTETS))),
     ]

@@ -1,5 +1,6 @@
--- A buffer of 4,096 octets has room for the text of every accepted capture: document 01, "Capture and listing". Assumes nothing.
-use mathlib.Core.Path.{_≡_, refl, ap}
+-- A buffer of 3,603 octets has room for the text of every accepted capture: a header line of at most 18, and at most 239 lines of at most 15. Document
+-- 01, "Capture and listing". Assumes nothing.
+use mathlib.Core.Path.{_≡_, refl, sym, ap, _∙_}
 use mathlib.Core.Logic.{_⊎_, inl, inr}
 use mathlib.Core.Bool.{Bool, true, false}
 use mathlib.Core.List.{List, [], _∷_, List·Memᴰ, List·Memᴰ·head, List·Memᴰ·tail}
@@ -71,7 +72,7 @@ name-short mode = by (eqb mode 1)
 
 -- ---- all of it
 
-pub text-short : (capture : List ℕ) → refusalOf capture ≡ 0 → length (textOf capture) ≤ 4096
+pub text-short : (capture : List ℕ) → refusalOf capture ≡ 0 → length (textOf capture) ≤ 3603
 unfolding textOf releasedFrom
 text-short capture z =
     let ok = accepted capture z in
@@ -94,6 +95,15 @@ text-short capture z =
       em,
     )
 
+-- so that no capture is refused for want of room
+pub room-enough : (capture text : List ℕ) → 3603 ≤ length text → listed capture text .answer .refusal ≡ refusalOf capture
+unfolding listed
+room-enough capture text room = by (ℕ-discrete (refusalOf capture) 0)
+  where
+    by : Dec (refusalOf capture ≡ 0) → listed capture text .answer .refusal ≡ refusalOf capture
+    by (no n) = rw (ne-eqb (refusalOf capture) 0 n)
+    by (yes e) = rw (eq-eqb (refusalOf capture) 0 e, le-leb (length (textOf capture)) (length text) (omega (arith, text-short capture e, room))) (sym e)
+
 -- ---- what is counted stands in the text, which keeps its length
 
 record Counted (d : Done) (text : List ℕ) : Type 0 where
@@ -114,6 +124,9 @@ counted capture text = by (ℕ-discrete (refusalOf capture) 0) (decLe (length (t
     by (yes e) (no n) = rw (eq-eqb (refusalOf capture) 0 e, lt-leb (length (textOf capture)) (length text) (omega arith)) (none 7)
 
 module _ (capture text text′ : List ℕ) (r : Listed) (e : done r text′ ≡ listed capture text) where
+  pub refused-as : 3603 ≤ length text → r .refusal ≡ refusalOf capture
+  refused-as room = ap (λ (x : Done). x .answer .refusal) e ∙ room-enough capture text room
+
   pub count-within : r .count ≤ length text
   count-within = omega (arith, ap (λ (x : Done). x .answer .count) e, counted capture text .within)
 

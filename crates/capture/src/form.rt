@@ -30,11 +30,11 @@ fn well_formed(capture: &[u8]) -> bool
     true
 }
 
-// E, in two octets.
+// E, in two octets, the higher first.
 pub(crate) fn extent_of(capture: &[u8]) -> u32
     ensures { λ r. ⌜ r ≡ extentOf (now (capture .entry)) ⌝ }
 {
-    (bits::word_at(capture, 5) >> 48) as u32
+    bits::octet_at(capture, 5) as u32 * 256 + bits::octet_at(capture, 6) as u32
 }
 
 // 8, then the table's order: the lowest number that applies, or 0.

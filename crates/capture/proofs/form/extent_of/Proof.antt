@@ -1,41 +1,59 @@
 -- `capture::form::extent_of` meets its contract.
 -- Assumes nothing.
 use borrow.Author.Needs.{needs}
-use Prim.Native.Nat.{ℕ, suc, _+_, _-_, _*_, _/_, _%_, _^_, _≤_, _<_}
-use mathlib.Core.Path.{_≡_, refl, sym, ap, _∙_, subst}
-use mathlib.Core.List.{List, [], _∷_, _++_}
-use mathlib.Core.Bool.{Bool, true, false}
-use mathlib.Core.Logic.{⊎-elim}
-use native.Mathlib.Numerals.{add-one}
+use Prim.Native.Nat.{ℕ, _+_, _*_, _<_}
+use mathlib.Core.Path.{_≡_}
+use mathlib.Core.List.{List}
 use native.Mathlib.Omega.{arith}
-use borrow.Author.Count.{below-more}
-use borrow.Author.Tests.{le-ltb, lt-ltb, ltb-true, ltb-false, eq-eqb, ne-eqb}
-use lib.ListN.{length, getD, set, take, drop, length-set, length-append, length-take, length-drop}
-use lib.Seq.{take-suc, take-suc-set, take-all}
-use denote.Ref.{now}
+use lib.ListN.{getD}
+use Rattle.bits.proofs.Numbers.{number-octet, number-next}
 use Rattle.capture.specs.Form.{extentOf}
-use Rattle.bits.specs.Order.{bitAt, number}
-use Rattle.bits.proofs.Numbers.{number-high, number-lt, bitAt-lt}
 use Rattle.capture.proofs.form.extent_of.Statement.{statement}
 use Rattle.capture.proofs.form.extent_of.Tie as tie
-use Rattle.capture.proofs.form.extent_of.Reads as reads
-use Rattle.capture.proofs.form.extent_of.Lts as lts
-use Rattle.bits.proofs.word_at.Reads as word-at-reads
 
--- src/form.rt:37:6
-word-at-requires : tie.Need-word-at-requires
-word-at-requires c κs = search needs
+two-octets : (capture : List ℕ) (a b : ℕ) → a ≡ getD capture 5 0 → b ≡ getD capture 6 0 → getD capture 5 0 < 256 → getD capture 6 0 < 256 → a * 256 + b ≡ extentOf capture
+unfolding extentOf
+two-octets capture a b first second h l = omega (arith, first, second, number-next capture 5 1 l, number-octet capture 5 h)
+
+-- src/form.rt:37:5
+octet-at-requires : tie.Need-octet-at-requires
+octet-at-requires c κs = search needs
 
 -- src/form.rt:37:5
 cast-result : tie.Need-cast-result
 cast-result c = search needs
 
+-- src/form.rt:37:5
+mul-result : tie.Need-mul-result
+mul-result c = search needs
+
+-- src/form.rt:37:47
+octet-at-requires-2 : tie.Need-octet-at-requires-2
+octet-at-requires-2 c κs = search needs
+
+-- src/form.rt:37:47
+cast-result-2 : tie.Need-cast-result-2
+cast-result-2 c = search needs
+
+-- src/form.rt:37:5
+add-result : tie.Need-add-result
+add-result c = search needs
+
 -- src/form.rt:34:1
 returns : tie.Need-returns
-unfolding extentOf
 returns c =
-    let octets = c .before .before .args .capture .now in
-    ap (λ (x : ℕ). x / 2 ^ 48) (c .word-at .ensures) ∙ number-high (bitAt octets) (bitAt-lt octets) 40 16 48
+    let capture = c .before .before .before .args .capture .now in
+    let octet = c .before .before .shared-slice-known .given in
+    two-octets capture _ _ (c .before .octet-at .ensures) (c .octet-at2 .ensures) (omega (arith, octet 5)) (omega (arith, octet 6))
 
 pub extent-of-spec : {M : Type 1} → statement M
-extent-of-spec = tie.close (tie.spec word-at-requires cast-result returns)
+extent-of-spec =
+    tie.close
+    (tie.spec
+    octet-at-requires
+    cast-result
+    mul-result
+    octet-at-requires-2
+    cast-result-2
+    add-result
+    returns)

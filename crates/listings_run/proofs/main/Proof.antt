@@ -1,0 +1,59 @@
+-- `listings_run::main` meets its contract.
+-- Assumes nothing.
+use borrow.Author.Needs.{needs}
+use Prim.Native.Nat.{_-_, _≤_}
+use Rattle.listings_run.proofs.main.Statement.{statement}
+use Rattle.listings_run.proofs.main.Tie as tie
+
+abbrev Inv-loop : tie.InvT-loop
+Inv-loop counter₀ counter = counter ≤ 1000
+
+abbrev μ-loop : tie.MeasureT-loop
+μ-loop counter₀ counter = 1000 - counter
+
+-- src/main.rt:65:5
+loop-holds : tie.Need-loop-holds Inv-loop μ-loop
+loop-holds c = search needs
+
+-- src/main.rt:66:13
+run-name-requires : tie.Need-run-name-requires Inv-loop μ-loop
+run-name-requires c κs = search needs
+
+-- src/main.rt:67:13
+returns : tie.Need-returns Inv-loop μ-loop
+returns c = search needs
+
+-- src/main.rt:69:9
+run-capture-requires : tie.Need-run-capture-requires Inv-loop μ-loop
+run-capture-requires c κs = search needs
+
+-- src/main.rt:65:9
+add-counter : tie.Need-add-counter Inv-loop μ-loop
+add-counter c = search needs
+
+-- src/main.rt:65:5
+loop-less : tie.Need-loop-less Inv-loop μ-loop
+loop-less c = search needs
+
+-- src/main.rt:65:5
+loop-again : tie.Need-loop-again Inv-loop μ-loop
+loop-again c = search needs
+
+-- src/main.rt:64:1
+returns-2 : tie.Need-returns-2 Inv-loop μ-loop
+returns-2 c = search needs
+
+pub main-spec : {M : Type 1} → statement M
+main-spec =
+    tie.close
+    (tie.spec
+    Inv-loop
+    μ-loop
+    loop-holds
+    run-name-requires
+    returns
+    run-capture-requires
+    add-counter
+    loop-less
+    loop-again
+    returns-2)
