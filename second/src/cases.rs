@@ -1,8 +1,8 @@
-//! What the seeded cases of `second lanes`, `second damaged` and `second locks` have in common.
+//! What the seeded cases of `second bulk` have in common.
 //!
 //! Every number of a case comes from its own generator, in the order in which it is named here (generator.rs): x starts
 //! at seed * 7919 mod 2^31, and draw(n) steps x to (x * 1103515245 + 12345) mod 2^31 and is then x / 2^11 mod n. No n is
-//! above 2^20, so one draw makes each number. A digest is FNV-1a of 64 bits over octets, a number as 8 octets with the
+//! above 2^20, so one draw makes each number; "rarely" is draw(32) being 0. A digest is FNV-1a of 64 bits over octets, a number as 8 octets with the
 //! highest first; it is printed in 16 hexadecimal digits, all else in decimal.
 //!
 //! Input of a sender: mode, E, the number of multiblocks; 256 user octets for each, draw(256) each; one command for each,
@@ -54,7 +54,7 @@ pub fn draw_mode(generator: &mut Generator) -> u8 {
 
 /// E of lanes and damaged lanes.
 pub fn draw_extent(generator: &mut Generator) -> u32 {
-    [1, 2, 3, 256][generator.draw(4)]
+    generator.one_of(&[1, 2, 3, 256])
 }
 
 /// Which multiblocks each call takes.

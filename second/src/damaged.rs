@@ -1,18 +1,22 @@
-//! `second damaged`: what a receiver makes of seeded lanes, damaged and cut into calls (cases.rs has the generator and
+//! `SEED damaged`: what a receiver makes of a seeded lane, damaged and cut into calls (cases.rs has the generator and
 //! the digest).
 //!
-//! Seeds 1 to 600. Drawn: mode = draw(2); E = [1, 2, 3, 256][draw(4)]; N = 2 + draw(6) multiblocks; user octets;
-//! commands. The lane is made in one call of a fresh sender. Then kind = draw(6):
+//! Drawn: mode = draw(2); E = [1, 2, 3, 256][draw(4)]; N = 2 + draw(6) multiblocks; user octets;
+//! commands. The lane is made in one call of a fresh sender. Then kind = draw(8):
 //!   0  none
 //!   1  one burst of at most 9 lane bits in FEC, 12 in CRC-12
 //!   2  1 + draw(4) bursts of at most 14 lane bits
 //!   3  1 + draw(8) headers: block draw(32 N) gets 00 if draw(2) is 0, and 11 if it is 1
 //!   4  1 + draw(64) octets: octet draw(264 N) becomes draw(256)
 //!   5  both header bits flipped in every block of the multiblocks N / 2 (rounded down) to N - 1 that carries parity
+//!   6  bursts of at most 9 lane bits in FEC, 12 in CRC-12, 4,224 clear bits or more between: the first begins at bit
+//!      draw(4224), each next draw(2112) bits later than it could, while they end within the lane; of each the length is
+//!      drawn, then its bits, then where the next begins
+//!   7  every octet is drawn
 //! A burst of at most m bits: length = 1 + draw(m); first bit = draw(2112 N - length + 1); the first and the last are
 //! flipped, and each between, in order, if draw(2) is 1.
 //! Then the calls are drawn in which the lane is received, the first from a fresh state.
-//! A line: `damaged SEED MODE N KIND COUNT`, COUNT multiblocks released in all; for each ` STATUS/PLACE/PATTERN/COMMAND`;
+//! A line: `SEED damaged MODE N KIND COUNT`, COUNT multiblocks released in all; for each ` STATUS/PLACE/PATTERN/COMMAND`;
 //! ` DIGEST` of all released octets; the end state as ` WAITING HISTORY TRUSTED COMMAND DIGEST`, the digest of its 256
 //! octets; and the longest run of statuses 0 and 1 over all releases as ` START LENGTH` in multiblocks, 0 0 if none.
 
@@ -25,14 +29,15 @@ use crate::longest;
 use crate::mode::{mode, Mode, BLOCKS, BLOCK_BITS, LANE_OCTETS, MULTIBLOCK_BITS, USER_OCTETS};
 use crate::receiver::{self, Lent, Receiver};
 
-const SEEDS: std::ops::RangeInclusive<u64> = 1..=600;
 const LONG_BURST: usize = 14;
+const CLEAR_BITS: usize = 4224;
 
-struct Case {
-    mode: u8,
+pub struct Case {
+    pub mode: u8,
+    pub e: u32,
     multiblocks: usize,
     kind: usize,
-    lane: Vec<u8>,
+    pub lane: Vec<u8>,
 }
 
 struct Outcome {
@@ -49,12 +54,30 @@ pub fn flipped(lane: &[u8], places: &[usize]) -> Vec<u8> {
     bits::octets(&all)
 }
 
+/// The lane bits of a burst from `first` to `last`.
+fn draw_bits(generator: &mut Generator, first: usize, last: usize) -> Vec<usize> {
+    (first..=last).filter(|place| *place == first || *place == last || generator.draw(2) == 1).collect()
+}
+
 /// The lane bits of a burst of at most so many.
 fn draw_burst(generator: &mut Generator, at_most: usize, lane_bits: usize) -> Vec<usize> {
     let length = 1 + generator.draw(at_most);
     let first = generator.draw(lane_bits - length + 1);
-    let last = first + length - 1;
-    (first..=last).filter(|place| *place == first || *place == last || generator.draw(2) == 1).collect()
+    draw_bits(generator, first, first + length - 1)
+}
+
+/// The lane bits of bursts of at most so many, far enough from each other.
+fn draw_far_bursts(generator: &mut Generator, at_most: usize, lane_bits: usize) -> Vec<usize> {
+    let mut places = vec![];
+    let mut first = generator.draw(CLEAR_BITS);
+    loop {
+        let last = first + generator.draw(at_most);
+        if last >= lane_bits {
+            return places;
+        }
+        places.extend(draw_bits(generator, first, last));
+        first = last + 1 + CLEAR_BITS + generator.draw(MULTIBLOCK_BITS);
+    }
 }
 
 /// The lane bits of all headers that carry parity in the multiblocks from `first` on.
@@ -81,18 +104,20 @@ fn damage(generator: &mut Generator, kind: usize, mode: &Mode, multiblocks: usiz
             lane
         }),
         5 => flipped(&lane, &parity_headers(mode, multiblocks / 2, multiblocks)),
+        6 => flipped(&lane, &draw_far_bursts(generator, mode.burst_limit, lane_bits)),
+        7 => generator.draw_octets(lane.len()),
         _ => lane,
     }
 }
 
-fn draw_case(generator: &mut Generator) -> Case {
+pub fn draw_case(generator: &mut Generator) -> Case {
     let number = draw_mode(generator);
     let e = draw_extent(generator);
     let multiblocks = 2 + generator.draw(6);
     let lane = Input::draw(generator, number, e, multiblocks).lane();
-    let kind = generator.draw(6);
+    let kind = generator.draw(8);
     let mode = mode(number).expect("a mode drawn is 0 or 1");
-    Case { mode: number, multiblocks, kind, lane: damage(generator, kind, mode, multiblocks, lane) }
+    Case { mode: number, e, multiblocks, kind, lane: damage(generator, kind, mode, multiblocks, lane) }
 }
 
 fn receive(generator: &mut Generator, case: &Case) -> Outcome {
@@ -116,7 +141,7 @@ fn case_and_outcome(seed: u64) -> (Case, Outcome) {
     (case, outcome)
 }
 
-fn line(seed: u64) -> String {
+pub fn line(seed: u64) -> String {
     let (case, Outcome { released, state }) = case_and_outcome(seed);
     let count = released.statuses.len();
     let release = |k: usize| {
@@ -128,7 +153,7 @@ fn line(seed: u64) -> String {
     let (start, length) = longest::span(&released.statuses);
     assert_eq!(longest::longest_run(&released.octets, &released.statuses).part.len(), USER_OCTETS * length);
     format!(
-        "damaged {seed} {} {} {} {count}{releases} {} {end} {} {start} {length}",
+        "{seed} damaged {} {} {} {count}{releases} {} {end} {} {start} {length}",
         case.mode,
         case.multiblocks,
         case.kind,
@@ -137,15 +162,23 @@ fn line(seed: u64) -> String {
     )
 }
 
-pub fn lines() -> Vec<String> {
-    SEEDS.map(line).collect()
-}
-
 #[cfg(test)]
 mod tests {
-    use super::{case_and_outcome, parity_headers, Outcome, SEEDS};
+    use super::{case_and_outcome, draw_far_bursts, parity_headers, Outcome, CLEAR_BITS};
+    use crate::generator::Generator;
     use crate::mode::mode;
     use crate::receiver::{self, Lent, Receiver};
+
+    const SEEDS: std::ops::RangeInclusive<u64> = 1..=600;
+
+    #[test]
+    fn far_bursts_are_within_the_premise() {
+        for seed in SEEDS {
+            let places = draw_far_bursts(&mut Generator::seeded(seed), 9, 2112 * 7);
+            assert!(places.windows(2).all(|pair| pair[1] - pair[0] < 9 || pair[1] - pair[0] > CLEAR_BITS));
+            assert!(places.iter().any(|place| *place > CLEAR_BITS) && places.iter().all(|place| *place < 2112 * 7));
+        }
+    }
 
     #[test]
     fn the_parity_headers_of_each_mode() {

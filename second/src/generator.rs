@@ -33,6 +33,16 @@ impl Generator {
         (self.next() / 2_u64.pow(11)) as usize % n
     }
 
+    /// One of these.
+    pub fn one_of<T: Copy>(&mut self, these: &[T]) -> T {
+        these[self.draw(these.len())]
+    }
+
+    /// Whether draw(32) is 0.
+    pub fn rarely(&mut self) -> bool {
+        self.draw(32) == 0
+    }
+
     pub fn draw_octet(&mut self) -> u8 {
         self.draw(256) as u8
     }

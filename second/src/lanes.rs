@@ -1,8 +1,8 @@
-//! `second lanes`: what a sender makes of seeded inputs, cut into calls (cases.rs has the generator and the digest).
+//! `SEED lane`: what a sender makes of a seeded input, cut into calls (cases.rs has the generator and the digest).
 //!
-//! Seeds 1 to 240. Drawn: mode = draw(2); E = [1, 2, 3, 256][draw(4)]; N = 1 + draw(6) multiblocks; user octets;
+//! Drawn: mode = draw(2); E = [1, 2, 3, 256][draw(4)]; N = 1 + draw(6) multiblocks; user octets;
 //! commands; calls. The first call is given a fresh sender.
-//! A line: `lane SEED MODE E N CALLS DIGEST HISTORY PARITY NUMBER`, with the calls counted (empty ones too), the digest of
+//! A line: `SEED lane MODE E N CALLS DIGEST HISTORY PARITY NUMBER`, with the calls counted (empty ones too), the digest of
 //! the whole lane, and the state after the last call.
 
 use crate::cases::{draw_calls, draw_extent, draw_mode, Input};
@@ -10,8 +10,6 @@ use crate::digest::Digest;
 use crate::generator::Generator;
 use crate::mode::{LANE_OCTETS, USER_OCTETS};
 use crate::sender::{send, Sender};
-
-const SEEDS: std::ops::RangeInclusive<u64> = 1..=240;
 
 struct Outcome {
     input: Input,
@@ -39,20 +37,18 @@ fn outcome(seed: u64) -> Outcome {
     Outcome { input, calls: calls.len(), lane, state }
 }
 
-fn line(seed: u64) -> String {
+pub fn line(seed: u64) -> String {
     let Outcome { input, calls, lane, state } = outcome(seed);
     let digest = Digest::of(&lane).hexadecimal();
-    let case = format!("lane {seed} {} {} {} {calls}", input.mode, input.e, input.multiblocks());
+    let case = format!("{seed} lane {} {} {} {calls}", input.mode, input.e, input.multiblocks());
     format!("{case} {digest} {} {} {}", state.history, state.parity, state.number)
-}
-
-pub fn lines() -> Vec<String> {
-    SEEDS.map(line).collect()
 }
 
 #[cfg(test)]
 mod tests {
-    use super::{outcome, SEEDS};
+    use super::outcome;
+
+    const SEEDS: std::ops::RangeInclusive<u64> = 1..=240;
 
     #[test]
     fn calls_make_the_lane_of_one_call() {

@@ -25,7 +25,7 @@ fn sections(capture: &[u8]) -> Option<([u8; 3], &[u8])> {
 }
 
 /// The lines of a listing, or the number by which the capture is refused.
-fn lines(capture: &[u8]) -> Result<Vec<String>, u8> {
+pub fn lines(capture: &[u8]) -> Result<Vec<String>, u8> {
     let ([mode, e_high, e_low], lane) = sections(capture).ok_or(8)?;
     let name = NAMES.get(usize::from(mode)).ok_or(1)?;
     let e = u16::from_be_bytes([e_high, e_low]);

@@ -1,16 +1,14 @@
-//! `second locks`: what the lock machines make of seeded header streams (cases.rs has the generator and the digest).
+//! `SEED lock`: what the lock machines make of a seeded header stream (cases.rs has the generator and the digest).
 //!
-//! Seeds 1 to 300. Drawn: mode = draw(2); E = 1 + draw(3); user octets and commands of 6 E + 4 multiblocks. The lane is
+//! Drawn: mode = draw(2); E = 1 + draw(3); user octets and commands of 6 E + 4 multiblocks. The lane is
 //! made in one call of a fresh sender. Then the block of the first header, draw(32 E); noise = draw(3); and, for each
 //! header from that block on to the lane's end, in order: with noise 0 nothing; with noise 1, if draw(64) is 0, and with
 //! noise 2, if draw(8) is 0, the header's value becomes draw(4).
-//! Seeds 241 to 300 go on: 384 E valid headers, 1 + draw(2) each, that lose extended lock; and 192 headers, draw(4) each,
+//! If draw(5) is 0 it goes on: 384 E valid headers, 1 + draw(2) each, that lose extended lock; and 192 headers, draw(4) each,
 //! that lose header lock.
-//! A line: `lock SEED MODE E NOISE STEPS DIGEST`, then the fields of the last state. The digest goes over the fields of the
+//! A line: `SEED lock MODE E NOISE STEPS DIGEST`, then the fields of the last state. The digest goes over the fields of the
 //! state after each step, each a number: locked, offset, run, bad; phase (0 hunting, 1 following, 2 locked), seen, headers
 //! (the latest is bit 0), good, bad, next.
-
-use std::ops::RangeInclusive;
 
 use crate::cases::{draw_mode, Input};
 use crate::digest::Digest;
@@ -19,8 +17,6 @@ use crate::generator::Generator;
 use crate::lock::{step, Lock};
 use crate::mode::BLOCKS;
 
-const SEEDS: RangeInclusive<u64> = 1..=300;
-const LONGER_SEEDS: RangeInclusive<u64> = 241..=300;
 const VALID_PER_EXTENT: usize = 384;
 const LAST: usize = 192;
 
@@ -61,7 +57,7 @@ fn case(seed: u64) -> Case {
     let noise = generator.draw(3);
     let clean = &frame::header_values(&lane)[first..];
     let mut headers: Vec<u8> = clean.iter().map(|header| noisy(&mut generator, noise, *header)).collect();
-    if LONGER_SEEDS.contains(&seed) {
+    if generator.draw(5) == 0 {
         headers.extend(draw_tail(&mut generator, extent));
     }
     Case { mode, e, noise, headers }
@@ -78,24 +74,22 @@ fn states(case: &Case) -> Vec<Lock> {
     case.headers.iter().scan(Lock::fresh(), next).collect()
 }
 
-fn line(seed: u64) -> String {
+pub fn line(seed: u64) -> String {
     let case = case(seed);
     let states = states(&case);
     let numbers = states.iter().flat_map(Lock::numbers);
     let digest = numbers.fold(Digest::empty(), Digest::with_number).hexadecimal();
     let last = states.last().map_or(Lock::fresh(), |lock| *lock).numbers().map(|number| number.to_string());
     let Case { mode, e, noise, headers } = case;
-    format!("lock {seed} {mode} {e} {noise} {} {digest} {}", headers.len(), last.join(" "))
-}
-
-pub fn lines() -> Vec<String> {
-    SEEDS.map(line).collect()
+    format!("{seed} lock {mode} {e} {noise} {} {digest} {}", headers.len(), last.join(" "))
 }
 
 #[cfg(test)]
 mod tests {
-    use super::{case, states, SEEDS};
+    use super::{case, states};
     use crate::lock::{Lock, Phase};
+
+    const SEEDS: std::ops::RangeInclusive<u64> = 1..=300;
 
     /// Every two neighbouring states of every case.
     fn changes() -> Vec<(Lock, Lock)> {

@@ -1,12 +1,14 @@
 //! The second program: scrambling bit by bit (clause 7.2.4), sync words by the lists of Tables 41 and 45 (clause 7.3),
 //! and parity by long division of polynomials (clauses 7.4.2 and 7.5.2).
 //! `second tables` prints Tables 37, 52, 54 and 55 and a spread of sync words; `second misprint` and `second bursts`
-//! print what can be found by trying every case. `second lanes`, `second damaged` and `second locks` print a line for
-//! each seeded case of the sender, of the receiver and of the lock machines. `second captures` prints named captures one
-//! after another, `second capture NAME` one of them, and `second listings` the listings of those on standard input.
+//! print what can be found by trying every case. `second bulk FIRST LAST` prints a line for the seeded case of each seed
+//! from FIRST to LAST. `second captures` prints named captures one after another, `second capture NAME` one of them, and
+//! `second listings` the listings of those on standard input.
 
 mod bits;
+mod bulk;
 mod bursts;
+mod calls;
 mod captures;
 mod cases;
 mod code;
@@ -15,6 +17,7 @@ mod digest;
 mod frame;
 mod generator;
 mod lanes;
+mod listed;
 mod listing;
 mod lock;
 mod locks;
@@ -33,7 +36,7 @@ use std::io::{stdin, stdout, Read, Write};
 use std::process::ExitCode;
 
 const USAGE: &str =
-    "usage: second tables | misprint | bursts | lanes | damaged | locks | captures | capture NAME | listings <CAPTURES";
+    "usage: second tables | misprint | bursts | bulk FIRST LAST | captures | capture NAME | listings <CAPTURES";
 
 fn text(lines: &[String]) -> Vec<u8> {
     lines.iter().flat_map(|line| format!("{line}\n").into_bytes()).collect()
@@ -51,9 +54,7 @@ fn answer(arguments: &[String]) -> Option<Vec<u8>> {
         ["tables"] => Some(text(&[tables::lines(), words::lines()].concat())),
         ["misprint"] => Some(text(&misprint::lines())),
         ["bursts"] => Some(text(&bursts::lines())),
-        ["lanes"] => Some(text(&lanes::lines())),
-        ["damaged"] => Some(text(&damaged::lines())),
-        ["locks"] => Some(text(&locks::lines())),
+        ["bulk", first, last] => Some(text(&bulk::lines(first.parse().ok()?, last.parse().ok()?))),
         ["captures"] => Some(captures::packed(&captures::cases())),
         ["capture", name] => captures::named(name),
         ["listings"] => listing::listings(&standard_input()?).map(String::into_bytes),

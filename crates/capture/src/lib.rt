@@ -18,6 +18,7 @@ pub struct Opened {
 }
 
 // A refusal, or 0 with the octets of text.
+#[repr(C)]
 pub struct Listed {
     pub refusal: u8,
     pub count: usize,

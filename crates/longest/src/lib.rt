@@ -43,7 +43,7 @@ pub fn span_of(statuses: &[u8]) -> Span
 }
 
 // 4 where the octets aren't 256 for each status, else 0.
-fn refusal_for(octets: &[u8], statuses: &[u8]) -> u8
+pub fn refusal_for(octets: &[u8], statuses: &[u8]) -> u8
     ensures { λ r. ⌜ r ≡ refusalFor (now (octets .entry)) (now (statuses .entry)) ⌝ }
 {
     if octets.len() % 256 != 0 {

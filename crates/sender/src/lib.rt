@@ -8,6 +8,7 @@ mod run;
 
 // What a sender carries from one call to the next: the last 58 bits sent, the parity of the last multiblock, and the number of the next
 // multiblock in its extended multiblock.
+#[repr(C)]
 pub struct Sender {
     pub history: u64,
     pub parity: u32,
@@ -15,6 +16,7 @@ pub struct Sender {
 }
 
 // A refusal, or 0 with the multiblocks sent; and the state for the next call.
+#[repr(C)]
 pub struct Sent {
     pub refusal: u8,
     pub count: usize,

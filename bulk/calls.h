@@ -1,0 +1,238 @@
+/* One call with any state and any lengths: second/src/calls.rs says the rules. */
+#ifndef CALLS_H
+#define CALLS_H
+
+#include "lane.h"
+
+enum { BEFORE = 165 };
+
+static const u8 MODES[8] = {0, 0, 0, 0, 1, 1, 1, 2};
+static const u32 EXTENTS[8] = {1, 2, 3, 4, 256, 255, 257, 0};
+
+static u32 or_more(u32 number, u32 more) {
+    return rarely() ? number + more : number;
+}
+
+static u32 or_rather(u32 number, u32 that) {
+    return rarely() ? that : number;
+}
+
+static u64 draw_history(void) {
+    u64 history = draw(1 << 19);
+    history = history << 20 | draw(1 << 20);
+    history = history << 19 | draw(1 << 19);
+    return rarely() ? history + (1UL << 58) : history;
+}
+
+static size draw_count(void) {
+    return draw(32) == 0 ? 239 + draw(3) : draw(4);
+}
+
+static size draw_parts(u8 *octets, size part, size count) {
+    size length = part * count;
+    if (rarely())
+        length += 1 + draw(part - 1);
+    draw_octets(octets, length);
+    return length;
+}
+
+static u32 draw_parity(u8 mode) {
+    if (mode == 0)
+        return or_more((u32)draw(4096), 1 << 12);
+    u32 parity = (u32)draw(1 << 13);
+    parity = parity << 13 | (u32)draw(1 << 13);
+    return or_more(parity, 1 << 26);
+}
+
+static size draw_commands(u8 mode, size count) {
+    size length = count + (size)rarely();
+    for (size k = 0; k < length; k++)
+        commands[k] = mode == 0 ? (u32)draw(128) : 0;
+    if (rarely() && length > 0)
+        commands[draw(length)] = mode == 0 ? 128 : 1;
+    return length;
+}
+
+static void send_call(u64 seed) {
+    u8 mode = MODES[draw(8)];
+    u32 e = EXTENTS[draw(8)];
+    struct zaytulobe_sender state;
+    state.history = draw_history();
+    state.parity = draw_parity(mode);
+    state.number = or_more((u32)draw(e == 0 ? 1 : e), e);
+    size count = draw_count();
+    size user_length = draw_parts(user, 256, count);
+    size commands_length = draw_commands(mode, count);
+    size room = 264 * count + draw(16);
+    if (rarely())
+        room = count == 0 ? 0 : 264 * count - 1;
+    memset(lane, BEFORE, room);
+    struct zaytulobe_sent sent = zaytulobe_send(mode, e, state, user, user_length, commands, commands_length, lane, room);
+    printf("%lu send %d %lu %lu %u %u %016lx\n", seed, sent.refusal, sent.count, sent.state.history, sent.state.parity,
+        sent.state.number, digest_of(lane, room));
+}
+
+static struct zaytulobe_receiver draw_any_receiver(u8 mode) {
+    static const u8 waits[8] = {0, 0, 0, 1, 1, 1, 1, 1};
+    struct zaytulobe_receiver state;
+    u32 waiting = waits[draw(8)];
+    state.waiting = (u8)or_rather(waiting, 2);
+    u32 trusted = (u32)draw(2);
+    state.trusted = (u8)or_rather(trusted, 2);
+    state.history = draw_history();
+    u32 command = mode == 0 ? (u32)draw(256) : 0;
+    state.command = or_more(command, mode == 0 ? 256 : 1);
+    draw_octets(state.octets, 256);
+    return state;
+}
+
+static struct zaytulobe_receiver draw_receiver(u8 mode) {
+    struct zaytulobe_receiver any = draw_any_receiver(mode), none;
+    memset(&none, 0, sizeof none);
+    if (any.waiting != 0)
+        return any;
+    switch (draw(8)) {
+    case 0: return any;
+    case 1: none.history = any.history; break;
+    case 2: none.command = any.command; break;
+    case 3: none.trusted = any.trusted; break;
+    case 4: for (int k = 0; k < 256; k++) none.octets[k] = any.octets[k]; break;
+    }
+    return none;
+}
+
+static u8 octets[256 * MOST], statuses[MOST + 2];
+static u32 got_commands[MOST + 2];
+static u16 places[MOST + 2], patterns[MOST + 2];
+
+/* The rooms of octets, statuses, commands, places and patterns. */
+static void draw_lent(size *rooms, size count) {
+    rooms[0] = 256 * count + draw(16);
+    for (int k = 1; k < 5; k++)
+        rooms[k] = count + draw(3);
+    if (rarely()) {
+        size which = draw(5), whole = which == 0 ? 256 * count : count;
+        rooms[which] = whole == 0 ? 0 : whole - 1;
+    }
+    memset(octets, BEFORE, rooms[0]);
+    memset(statuses, BEFORE, rooms[1]);
+    for (size k = 0; k < MOST + 2; k++) {
+        got_commands[k] = BEFORE;
+        places[k] = patterns[k] = BEFORE;
+    }
+}
+
+static u64 lent_digest(const size *rooms) {
+    u64 digest = with_octets(digest_of(octets, rooms[0]), statuses, rooms[1]);
+    for (size k = 0; k < rooms[2]; k++)
+        digest = with_number(digest, got_commands[k]);
+    for (size k = 0; k < rooms[3]; k++)
+        digest = with_number(digest, places[k]);
+    for (size k = 0; k < rooms[4]; k++)
+        digest = with_number(digest, patterns[k]);
+    return digest;
+}
+
+static void receive_call(u64 seed) {
+    size rooms[5];
+    u8 mode = MODES[draw(8)];
+    struct zaytulobe_receiver state = draw_receiver(mode);
+    size count = draw_count();
+    size lane_length = draw_parts(lane, 264, count);
+    draw_lent(rooms, count);
+    struct zaytulobe_received received = zaytulobe_receive(mode, state, lane, lane_length, octets, rooms[0], statuses, rooms[1],
+        got_commands, rooms[2], places, rooms[3], patterns, rooms[4]);
+    state = received.state;
+    printf("%lu receive %d %lu %d %lu %d %u %016lx %016lx\n", seed, received.refusal, received.count, state.waiting,
+        state.history, state.trusted, state.command, digest_of(state.octets, 256), lent_digest(rooms));
+}
+
+static u32 draw_headers(u32 seen) {
+    u32 headers = (u32)draw(1 << 16);
+    headers = headers << 16 | (u32)draw(1 << 16);
+    if (draw(2) == 0)
+        headers = headers / 16 * 16 | 256;
+    return rarely() ? headers : (u32)(headers % (1UL << seen));
+}
+
+static u32 draw_next(u32 phase, u32 period) {
+    if (phase != 1 && phase != 2)
+        return 0;
+    return draw(2) == 0 ? 1 : 1 + (u32)draw(period);
+}
+
+static struct zaytulobe_extended_lock draw_extended(u32 period) {
+    static const u32 seen[8] = {0, 5, 31, 32, 32, 32, 32, 32};
+    struct zaytulobe_extended_lock lock;
+    u32 phase = (u32)draw(3);
+    lock.phase = or_rather(phase, 3);
+    u32 headers_seen = seen[draw(8)];
+    lock.seen = or_rather(headers_seen, 33);
+    lock.headers = draw_headers(lock.seen);
+    u32 good = lock.phase == 1 ? 1 + (u32)draw(3) : 0;
+    lock.good = or_more(good, 4);
+    u32 bad = lock.phase == 2 ? (u32)draw(8) : 0;
+    lock.bad = or_more(bad, 8);
+    u32 next = draw_next(lock.phase, period);
+    lock.next = or_more(next, period);
+    return lock;
+}
+
+static struct zaytulobe_lock draw_lock(u32 e) {
+    static const u32 locks[8] = {0, 1, 1, 1, 1, 1, 1, 1};
+    struct zaytulobe_lock lock;
+    u32 locked = locks[draw(8)];
+    lock.header.locked = or_rather(locked, 2);
+    u32 offset = (u32)draw(66);
+    lock.header.offset = or_more(offset, 66);
+    u32 run = (u32)draw(64);
+    lock.header.run = or_more(run, 64);
+    u32 bad = lock.header.locked == 1 ? (u32)draw(16) : 0;
+    lock.header.bad = or_more(bad, 16);
+    lock.extended = draw_extended(32 * (e == 0 ? 1 : e));
+    if (lock.header.locked == 0 && draw(4) != 0)
+        memset(&lock.extended, 0, sizeof lock.extended);
+    return lock;
+}
+
+static void print_lock(struct zaytulobe_lock lock) {
+    struct zaytulobe_header_lock h = lock.header;
+    struct zaytulobe_extended_lock x = lock.extended;
+    printf(" %u %u %u %u %u %u %u %u %u %u\n", h.locked, h.offset, h.run, h.bad, x.phase, x.seen, x.headers, x.good, x.bad, x.next);
+}
+
+static void step_call(u64 seed) {
+    u8 mode = MODES[draw(8)];
+    u32 e = EXTENTS[draw(8)];
+    struct zaytulobe_lock lock = draw_lock(e);
+    u32 header = (u32)draw(4);
+    header = or_more(header, 4);
+    struct zaytulobe_stepped stepped = zaytulobe_lock_step(mode, e, lock, (u8)header);
+    printf("%lu step %d", seed, stepped.refusal);
+    print_lock(stepped.lock);
+}
+
+static void longest_call(u64 seed) {
+    static const u8 listed[12] = {0, 0, 0, 0, 1, 1, 1, 2, 3, 4, 5, 255};
+    size count = draw(12);
+    for (size k = 0; k < count; k++)
+        statuses[k] = listed[draw(12)];
+    size length = 256 * count;
+    if (rarely())
+        length += 1 + draw(255);
+    if (rarely())
+        length += 256;
+    struct zaytulobe_run run = zaytulobe_longest_run(octets, length, statuses, count);
+    printf("%lu longest %d %lu %lu\n", seed, run.refusal, run.start, run.count);
+}
+
+static void any_call(u64 seed) {
+    switch (draw(4)) {
+    case 0: send_call(seed); break;
+    case 1: receive_call(seed); break;
+    case 2: step_call(seed); break;
+    default: longest_call(seed);
+    }
+}
+
+#endif

@@ -1,0 +1,177 @@
+/* driver FIRST LAST: prints a line for the seeded case of each seed from FIRST to LAST, worked by the proved library. The
+   second program prints the same lines by `second bulk FIRST LAST`: second/src/bulk.rs says which case a seed is, and
+   lanes.rs, damaged.rs, locks.rs, listed.rs and calls.rs what is drawn and what a line holds. */
+#include "calls.h"
+
+u64 strtoul(const char *text, char **end, int base);
+
+static void sent_line(u64 seed) {
+    draw_settings();
+    draw_input(1 + draw(6));
+    draw_calls();
+    struct zaytulobe_sender state = zaytulobe_fresh_sender();
+    memset(lane, 0, drawn.lane_length);
+    for (size k = 0, from = 0; k < call_count; from += calls[k++]) {
+        size n = calls[k];
+        struct zaytulobe_sent sent = zaytulobe_send(
+            drawn.mode, drawn.e, state, user + 256 * from, 256 * n, commands + from, n, lane + 264 * from, 264 * n);
+        state = sent.state;
+    }
+    printf("%lu lane %d %u %lu %lu %016lx %lu %u %u\n", seed, drawn.mode, drawn.e, drawn.multiblocks, call_count,
+        digest_of(lane, drawn.lane_length), state.history, state.parity, state.number);
+}
+
+/* Receives the lane in its calls, each release after those before it; the number of all. */
+static size receive_calls(struct zaytulobe_receiver *state) {
+    size count = 0;
+    for (size k = 0, from = 0; k < call_count; from += calls[k++]) {
+        size n = calls[k];
+        struct zaytulobe_received received = zaytulobe_receive(drawn.mode, *state, lane + 264 * from, 264 * n, octets + 256 * count,
+            256 * n, statuses + count, n, got_commands + count, n, places + count, n, patterns + count, n);
+        *state = received.state;
+        count += received.count;
+    }
+    return count;
+}
+
+static void damaged_line(u64 seed) {
+    draw_damaged();
+    draw_calls();
+    struct zaytulobe_receiver state = zaytulobe_fresh_receiver();
+    size count = receive_calls(&state);
+    printf("%lu damaged %d %lu %lu %lu", seed, drawn.mode, drawn.multiblocks, drawn.kind, count);
+    for (size k = 0; k < count; k++)
+        printf(" %d/%d/%d/%u", statuses[k], places[k], patterns[k], got_commands[k]);
+    struct zaytulobe_run run = zaytulobe_longest_run(octets, 256 * count, statuses, count);
+    printf(" %016lx %d %lu %d %u %016lx %lu %lu\n", digest_of(octets, 256 * count), state.waiting, state.history, state.trusted,
+        state.command, digest_of(state.octets, 256), run.start, run.count);
+}
+
+/* The header values of a case, one for each step. */
+enum { MOST_STEPS = 32 * 22 + 384 * 3 + 192 };
+static u8 headers[MOST_STEPS];
+
+static u8 noisy(size noise, u8 header) {
+    int replaced = noise == 1 ? draw(64) == 0 : noise == 2 ? draw(8) == 0 : 0;
+    return replaced ? (u8)draw(4) : header;
+}
+
+static size draw_header_values(size noise, size first, size extent) {
+    size steps = 0;
+    for (size bit = 66 * first; bit < 8 * drawn.lane_length; bit += 66)
+        headers[steps++] = noisy(noise, lane[bit / 8] >> (6 - bit % 8) & 3);
+    if (draw(5) != 0)
+        return steps;
+    for (size left = 384 * extent; left > 0; left--)
+        headers[steps++] = (u8)(1 + draw(2));
+    for (size left = 192; left > 0; left--)
+        headers[steps++] = (u8)draw(4);
+    return steps;
+}
+
+static u64 with_lock(u64 digest, struct zaytulobe_lock lock) {
+    struct zaytulobe_header_lock h = lock.header;
+    struct zaytulobe_extended_lock x = lock.extended;
+    u32 numbers[10] = {h.locked, h.offset, h.run, h.bad, x.phase, x.seen, x.headers, x.good, x.bad, x.next};
+    for (int k = 0; k < 10; k++)
+        digest = with_number(digest, numbers[k]);
+    return digest;
+}
+
+static void lock_line(u64 seed) {
+    drawn.mode = (u8)draw(2);
+    size extent = 1 + draw(3);
+    drawn.e = (u32)extent;
+    draw_input(6 * extent + 4);
+    send_input();
+    size first = draw(32 * extent);
+    size noise = draw(3);
+    size steps = draw_header_values(noise, first, extent);
+    struct zaytulobe_lock lock = zaytulobe_fresh_lock();
+    u64 digest = EMPTY;
+    for (size k = 0; k < steps; k++) {
+        lock = zaytulobe_lock_step(drawn.mode, drawn.e, lock, headers[k]).lock;
+        digest = with_lock(digest, lock);
+    }
+    printf("%lu lock %d %u %lu %lu %016lx", seed, drawn.mode, drawn.e, noise, steps, digest);
+    print_lock(lock);
+}
+
+static u8 capture[11 + 264 * MOST + 300], text[4096];
+
+static void draw_other_lane(void) {
+    if (draw(64) == 0) {
+        drawn.lane_length = 264 * (239 + draw(3));
+        draw_octets(lane, drawn.lane_length);
+    }
+    if (draw(4) == 0)
+        drawn.lane_length = 264 * draw(drawn.lane_length / 264 + 1);
+}
+
+static void put_extent(size e) {
+    capture[5] = (u8)(e / 256);
+    capture[6] = (u8)(e % 256);
+}
+
+static size put_capture(void) {
+    size length = drawn.lane_length;
+    memset(capture, 0, 11);
+    capture[3] = 3;
+    capture[4] = drawn.mode;
+    put_extent(drawn.e);
+    capture[8] = (u8)(length >> 16);
+    capture[9] = (u8)(length >> 8);
+    capture[10] = (u8)length;
+    for (size k = 0; k < length; k++)
+        capture[11 + k] = lane[k];
+    return 11 + length;
+}
+
+static size draw_capture(void) {
+    static const u16 extents[4] = {0, 1, 256, 257};
+    draw_damaged();
+    draw_other_lane();
+    size form = draw(12), place;
+    if (form == 6) {
+        size lost = draw(264);
+        drawn.lane_length -= lost < drawn.lane_length ? lost : drawn.lane_length;
+    }
+    size length = put_capture();
+    switch (form) {
+    case 0: capture[4] = (u8)draw(256); break;
+    case 1: put_extent(extents[draw(4)]); break;
+    case 2: put_extent(draw(65536)); break;
+    case 3: place = draw(11); capture[place] = (u8)draw(256); break;
+    case 4: length = draw(length + 1); break;
+    case 5: place = length; length += 1 + draw(300); draw_octets(capture + place, length - place); break;
+    }
+    return length;
+}
+
+static void listing_line(u64 seed) {
+    size length = draw_capture();
+    size room = draw(8) == 0 ? draw(64) : sizeof text;
+    memset(text, BEFORE, room);
+    struct zaytulobe_listed listed = zaytulobe_listing(capture, length, text, room);
+    printf("%lu listing %lu %d %lu %016lx\n", seed, length, listed.refusal, listed.count, digest_of(text, room));
+}
+
+static void line(u64 seed) {
+    seed_generator(seed);
+    switch (seed % 5) {
+    case 0: sent_line(seed); break;
+    case 1: damaged_line(seed); break;
+    case 2: lock_line(seed); break;
+    case 3: listing_line(seed); break;
+    default: any_call(seed);
+    }
+}
+
+int main(int count, char **words) {
+    if (count != 3)
+        return 2;
+    u64 last = strtoul(words[2], 0, 10);
+    for (u64 seed = strtoul(words[1], 0, 10); seed <= last; seed++)
+        line(seed);
+    return 0;
+}

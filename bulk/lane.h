@@ -1,0 +1,128 @@
+/* Seeded lanes and their damage: second/src/cases.rs and damaged.rs say the rules. */
+#ifndef LANE_H
+#define LANE_H
+
+#include "draw.h"
+
+enum { MOST_CALLS = 64, LONG_BURST = 14, CLEAR_BITS = 4224 };
+
+static struct {
+    u8 mode;
+    u32 e;
+    size multiblocks;
+    size kind;
+    size lane_length;
+} drawn;
+static u8 user[256 * MOST], lane[264 * MOST];
+static u32 commands[MOST];
+
+/* How many multiblocks each call takes. */
+static size calls[MOST_CALLS], call_count;
+
+static void draw_input(size multiblocks) {
+    drawn.multiblocks = multiblocks;
+    drawn.lane_length = 264 * multiblocks;
+    draw_octets(user, 256 * multiblocks);
+    for (size k = 0; k < multiblocks; k++)
+        commands[k] = drawn.mode == 1 ? 0 : (u32)draw(128);
+}
+
+/* The lane that a fresh sender makes of the input in one call; of zeros if it is refused, which then shows. */
+static void send_input(void) {
+    size n = drawn.multiblocks;
+    memset(lane, 0, drawn.lane_length);
+    zaytulobe_send(drawn.mode, drawn.e, zaytulobe_fresh_sender(), user, 256 * n, commands, n, lane, 264 * n);
+}
+
+static void draw_settings(void) {
+    static const u32 extents[4] = {1, 2, 3, 256};
+    drawn.mode = (u8)draw(2);
+    drawn.e = extents[draw(4)];
+}
+
+static void draw_calls(void) {
+    call_count = 0;
+    for (size left = drawn.multiblocks; left > 0;) {
+        size takes = draw(4);
+        calls[call_count] = takes < left ? takes : left;
+        left -= calls[call_count++];
+    }
+}
+
+static void flip(size bit) {
+    lane[bit / 8] ^= (u8)(128 >> bit % 8);
+}
+
+static void draw_bits(size first, size last) {
+    for (size bit = first; bit <= last; bit++)
+        if (bit == first || bit == last || draw(2) == 1)
+            flip(bit);
+}
+
+static void draw_burst(size at_most, size lane_bits) {
+    size length = 1 + draw(at_most);
+    size first = draw(lane_bits - length + 1);
+    draw_bits(first, first + length - 1);
+}
+
+static void draw_far_bursts(size at_most, size lane_bits) {
+    size first = draw(CLEAR_BITS);
+    for (;;) {
+        size last = first + draw(at_most);
+        if (last >= lane_bits)
+            return;
+        draw_bits(first, last);
+        first = last + 1 + CLEAR_BITS;
+        first += draw(2112);
+    }
+}
+
+static void draw_header(void) {
+    size bit = 66 * draw(32 * drawn.multiblocks);
+    u8 both = (u8)(192 >> bit % 8);
+    if (draw(2) == 1)
+        lane[bit / 8] |= both;
+    else
+        lane[bit / 8] &= (u8)~both;
+}
+
+static void draw_octet(void) {
+    size place = draw(264 * drawn.multiblocks);
+    lane[place] = (u8)draw(256);
+}
+
+/* Whether the header of a block carries parity: Tables 41 and 45. */
+static int carries_parity(size block) {
+    return drawn.mode == 1 ? block < 27 && block != 22 : block < 16 && block % 4 != 3;
+}
+
+static void flip_parities(void) {
+    for (size block = 32 * (drawn.multiblocks / 2); block < 32 * drawn.multiblocks; block++)
+        if (carries_parity(block % 32)) {
+            flip(66 * block);
+            flip(66 * block + 1);
+        }
+}
+
+static void damage(void) {
+    size limit = drawn.mode == 1 ? 9 : 12, lane_bits = 2112 * drawn.multiblocks;
+    switch (drawn.kind) {
+    case 1: draw_burst(limit, lane_bits); break;
+    case 2: for (size left = 1 + draw(4); left > 0; left--) draw_burst(LONG_BURST, lane_bits); break;
+    case 3: for (size left = 1 + draw(8); left > 0; left--) draw_header(); break;
+    case 4: for (size left = 1 + draw(64); left > 0; left--) draw_octet(); break;
+    case 5: flip_parities(); break;
+    case 6: draw_far_bursts(limit, lane_bits); break;
+    case 7: draw_octets(lane, 264 * drawn.multiblocks); break;
+    }
+}
+
+static void draw_damaged(void) {
+    draw_settings();
+    draw_input(2 + draw(6));
+    send_input();
+    drawn.kind = draw(8);
+    damage();
+}
+
+#endif

@@ -1,0 +1,38 @@
+-- `zaytulobe::locking::zaytulobe_lock_step` meets its contract.
+-- Assumes nothing.
+use borrow.Author.Needs.{needs}
+use borrow.Author.Tests.{not-true, not-false}
+use Rattle.zaytulobe.proofs.Stepped.{is-refused, is-stepped}
+use Rattle.zaytulobe.proofs.locking.zaytulobe_lock_step.Statement.{statement}
+use Rattle.zaytulobe.proofs.locking.zaytulobe_lock_step.Tie as tie
+
+numbers-fit-requires : tie.Need-numbers-fit-requires
+numbers-fit-requires c κs = search needs
+
+refusal-of-requires : tie.Need-refusal-of-requires
+refusal-of-requires c κs = search needs
+
+returns : tie.Need-returns
+returns c =
+    let a = c .before .before .before .args in
+    is-refused (a .mode) (a .e) (a .lock) (a .header) (c .before .before .numbers-fit .result) (c .before .before .numbers-fit .ensures) (c .refusal-of .result) (not-true _ (c .before .if1 .taken)) (c .refusal-of .ensures)
+
+lock-of-requires : tie.Need-lock-of-requires
+lock-of-requires c κs = search needs
+
+step-requires : tie.Need-step-requires
+step-requires c κs = search needs
+
+numbers-of-requires : tie.Need-numbers-of-requires
+numbers-of-requires c κs = search needs
+
+returns-2 : tie.Need-returns-2
+returns-2 c =
+    let a = c .before .before .before .before .before .before .args in
+    let f = c .before .before .before .before .before .numbers-fit in
+    is-stepped (a .mode) (a .e) (a .lock) (a .header) (f .result) (f .ensures) (c .before .before .before .lock-of .result) (c .before .before .step .result) (c .numbers-of .result) (not-false _ (c .before .before .before .before .if1 .left)) (c .before .before .before .lock-of .ensures) (c .before .before .step .ensures) (c .numbers-of .ensures)
+
+pub zaytulobe-lock-step-spec : {M : Type 1} → statement M
+zaytulobe-lock-step-spec =
+    tie.close
+    (tie.spec numbers-fit-requires refusal-of-requires returns lock-of-requires step-requires numbers-of-requires returns-2)

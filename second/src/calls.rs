@@ -1,0 +1,356 @@
+//! `SEED send`, `SEED receive`, `SEED step`, `SEED longest`: one call with any state and any lengths, most of them in range
+//! (cases.rs has the generator and the digest). States are numbers here, as a caller in C hands them: a flag that is
+//! neither 0 nor 1 and a phase above 2 are out of range.
+//!
+//! Drawn: draw(4), which call of the four. Then, in order:
+//! mode = [0, 0, 0, 0, 1, 1, 1, 2][draw(8)] and E = [1, 2, 3, 4, 256, 255, 257, 0][draw(8)], where the call has them.
+//! A history: three draws, of 19, 20 and 19 bits, the first highest; rarely 2^58 more.
+//! A count of multiblocks: draw(4); but 239 + draw(3) if draw(32), drawn first, is 0.
+//!
+//! send: a history; a parity, draw(4096), or with another mode than 0 two draws of 13 bits, the first highest; rarely 2^12,
+//! or 2^26, more; a number, draw(E), 0 for E 0; rarely E more; a count; 256 user octets for each, rarely 1 + draw(255) more;
+//! a command for each, rarely one more, draw(128) each, or 0 with another mode than 0; rarely, if there is one, command
+//! draw(how many) becomes 128, or 1; a lane of 264 octets for each and draw(16), rarely 1 less than for each.
+//!
+//! receive: waiting = [0, 0, 0, 1, 1, 1, 1, 1][draw(8)], rarely 2; trusted = draw(2), rarely 2; a history; a command,
+//! draw(256), rarely 256 more, or with another mode than 0 rarely 1; 256 octets. With nothing waiting, draw(8): 0 keeps
+//! all, 1 only the history, 2 the command, 3 trusted, 4 the octets, others none; what isn't kept becomes 0. A count; 264
+//! lane octets for each, rarely 1 + draw(263) more. Lent: 256 octets for each and draw(16), and four lists, one for each
+//! and draw(3); rarely number draw(5) of these five is 1 less than for each.
+//!
+//! step: locked = [0, 1, 1, 1, 1, 1, 1, 1][draw(8)], rarely 2; offset = draw(66), rarely 66 more; run = draw(64), rarely 64
+//! more; bad = draw(16) if locked is 1, rarely 16 more; phase = draw(3), rarely 3; seen = [0, 5, 31, 32, 32, 32, 32,
+//! 32][draw(8)], rarely 33; headers, two draws of 16 bits, the first highest; if draw(2) is 0, their last four bits become 0
+//! and bit 8 becomes 1; but rarely, only the lowest `seen` bits are kept; good = 1 + draw(3) if phase is 1, rarely 4 more;
+//! bad = draw(8) if phase is 2, rarely 8 more; next = 1 if phase is 1 or 2 and draw(2) is 0, or else 1 + draw(32 E); rarely
+//! 32 E more (of E 0 as of 1). With locked 0, if draw(4) isn't 0, all of extended lock becomes 0. The header is draw(4),
+//! rarely 4 more.
+//!
+//! longest: draw(12) statuses, [0, 0, 0, 0, 1, 1, 1, 2, 3, 4, 5, 255][draw(12)] each; 256 octets for each, rarely 1 + draw(255)
+//! more, rarely 256 more. The octets are 0.
+//!
+//! Every number lent to be written is 165 before. Lines: `SEED send REFUSAL COUNT HISTORY PARITY NUMBER DIGEST`, the digest
+//! of the lane; `SEED receive REFUSAL COUNT WAITING HISTORY TRUSTED COMMAND DIGEST DIGEST`, those of the state's octets and of
+//! all that was lent, numbers but for octets and statuses as 8 octets; `SEED step REFUSAL` and the fields of the state
+//! (locks.rs); `SEED longest REFUSAL START COUNT`.
+
+use crate::bits;
+use crate::digest::Digest;
+use crate::generator::Generator;
+use crate::lock::{self, ExtendedLock, HeaderLock, Lock, Phase};
+use crate::longest;
+use crate::mode::{is_extent, mode, BLOCKS, LANE_OCTETS, USER_OCTETS};
+use crate::receiver::{self, Lent, Receiver};
+use crate::sender::{self, Sender};
+
+const MODES: [u8; 8] = [0, 0, 0, 0, 1, 1, 1, 2];
+const EXTENTS: [u32; 8] = [1, 2, 3, 4, 256, 255, 257, 0];
+const BEFORE: u8 = 165;
+
+/// So much, but rarely more.
+fn or_more(generator: &mut Generator, number: u32, more: u32) -> u32 {
+    if generator.rarely() {
+        number + more
+    } else {
+        number
+    }
+}
+
+/// One of these, but rarely that.
+fn or_rather(generator: &mut Generator, these: &[u32], that: u32) -> u32 {
+    let number = generator.one_of(these);
+    if generator.rarely() {
+        that
+    } else {
+        number
+    }
+}
+
+fn draw_number(generator: &mut Generator, below: u32) -> u32 {
+    generator.draw(below as usize) as u32
+}
+
+fn draw_history(generator: &mut Generator) -> u64 {
+    let parts = [19, 20, 19].map(|bits| (bits, generator.draw(1 << bits) as u64));
+    let history = parts.iter().fold(0, |history, (bits, part)| history << bits | part);
+    if generator.rarely() {
+        history + (1 << 58)
+    } else {
+        history
+    }
+}
+
+fn draw_count(generator: &mut Generator) -> usize {
+    if generator.draw(32) == 0 {
+        239 + generator.draw(3)
+    } else {
+        generator.draw(4)
+    }
+}
+
+/// Octets of a number of whole parts, but rarely with a part of one more.
+fn draw_parts(generator: &mut Generator, part: usize, count: usize) -> Vec<u8> {
+    let more = if generator.rarely() { 1 + generator.draw(part - 1) } else { 0 };
+    generator.draw_octets(part * count + more)
+}
+
+fn draw_parity(generator: &mut Generator, mode: u8) -> u32 {
+    if mode == 0 {
+        let parity = draw_number(generator, 4096);
+        return or_more(generator, parity, 1 << 12);
+    }
+    let parity = draw_number(generator, 1 << 13) << 13 | draw_number(generator, 1 << 13);
+    or_more(generator, parity, 1 << 26)
+}
+
+fn draw_commands(generator: &mut Generator, mode: u8, count: usize) -> Vec<u32> {
+    let length = count + usize::from(generator.rarely());
+    let mut commands: Vec<u32> = (0..length).map(|_| if mode == 0 { draw_number(generator, 128) } else { 0 }).collect();
+    if generator.rarely() && length > 0 {
+        commands[generator.draw(length)] = if mode == 0 { 128 } else { 1 };
+    }
+    commands
+}
+
+fn send(generator: &mut Generator) -> String {
+    let mode = generator.one_of(&MODES);
+    let e = generator.one_of(&EXTENTS);
+    let history = draw_history(generator);
+    let parity = draw_parity(generator, mode);
+    let number = draw_number(generator, e.max(1));
+    let state = Sender { history, parity, number: or_more(generator, number, e) };
+    let count = draw_count(generator);
+    let user = draw_parts(generator, USER_OCTETS, count);
+    let commands = draw_commands(generator, mode, count);
+    let room = LANE_OCTETS * count + generator.draw(16);
+    let room = if generator.rarely() { (LANE_OCTETS * count).saturating_sub(1) } else { room };
+    let mut lane = vec![BEFORE; room];
+    let sent = sender::send(mode, e, state, &user, &commands, &mut lane);
+    let Sender { history, parity, number } = sent.state;
+    let digest = Digest::of(&lane).hexadecimal();
+    format!("send {} {} {history} {parity} {number} {digest}", sent.refusal, sent.count)
+}
+
+/// A receiver's state as numbers.
+struct Given {
+    waiting: u32,
+    trusted: u32,
+    history: u64,
+    command: u32,
+    octets: Vec<u8>,
+}
+
+impl Given {
+    fn draw_any(generator: &mut Generator, mode: u8) -> Given {
+        let waiting = or_rather(generator, &[0, 0, 0, 1, 1, 1, 1, 1], 2);
+        let trusted = or_rather(generator, &[0, 1], 2);
+        let history = draw_history(generator);
+        let command = if mode == 0 { draw_number(generator, 256) } else { 0 };
+        let command = or_more(generator, command, if mode == 0 { 256 } else { 1 });
+        Given { waiting, trusted, history, command, octets: generator.draw_octets(USER_OCTETS) }
+    }
+
+    fn draw(generator: &mut Generator, mode: u8) -> Given {
+        let any = Given::draw_any(generator, mode);
+        let none = Given { waiting: 0, trusted: 0, history: 0, command: 0, octets: vec![0; USER_OCTETS] };
+        if any.waiting != 0 {
+            return any;
+        }
+        match generator.draw(8) {
+            0 => any,
+            1 => Given { history: any.history, ..none },
+            2 => Given { command: any.command, ..none },
+            3 => Given { trusted: any.trusted, ..none },
+            4 => Given { octets: any.octets, ..none },
+            _ => none,
+        }
+    }
+
+    /// The state that they stand for, if each flag is one.
+    fn state(&self) -> Option<Receiver> {
+        let octets = self.octets[..].try_into().ok()?;
+        let state = Receiver {
+            waiting: self.waiting == 1,
+            octets,
+            history: self.history,
+            trusted: self.trusted == 1,
+            command: self.command,
+        };
+        Some(state).filter(|_| self.waiting < 2 && self.trusted < 2)
+    }
+
+    fn of(state: &Receiver) -> Given {
+        Given {
+            waiting: u32::from(state.waiting),
+            trusted: u32::from(state.trusted),
+            history: state.history,
+            command: state.command,
+            octets: state.octets.to_vec(),
+        }
+    }
+}
+
+fn draw_lent(generator: &mut Generator, count: usize) -> Lent {
+    let mut rooms = [USER_OCTETS * count + generator.draw(16), 0, 0, 0, 0];
+    for room in &mut rooms[1..] {
+        *room = count + generator.draw(3);
+    }
+    if generator.rarely() {
+        let which = generator.draw(5);
+        rooms[which] = (if which == 0 { USER_OCTETS * count } else { count }).saturating_sub(1);
+    }
+    Lent {
+        octets: vec![BEFORE; rooms[0]],
+        statuses: vec![BEFORE; rooms[1]],
+        commands: vec![u32::from(BEFORE); rooms[2]],
+        places: vec![u16::from(BEFORE); rooms[3]],
+        patterns: vec![u16::from(BEFORE); rooms[4]],
+    }
+}
+
+fn digest_of(lent: &Lent) -> Digest {
+    let octets = Digest::of(&lent.octets).with(&lent.statuses);
+    let commands = lent.commands.iter().map(|command| u64::from(*command));
+    let bursts = lent.places.iter().chain(&lent.patterns).map(|number| u64::from(*number));
+    commands.chain(bursts).fold(octets, Digest::with_number)
+}
+
+fn receive(generator: &mut Generator) -> String {
+    let number = generator.one_of(&MODES);
+    let given = Given::draw(generator, number);
+    let count = draw_count(generator);
+    let lane = draw_parts(generator, LANE_OCTETS, count);
+    let mut lent = draw_lent(generator, count);
+    let (refusal, count, after) = match given.state() {
+        Some(state) => {
+            let received = receiver::receive(number, state, &lane, &mut lent);
+            (received.refusal, received.count, Given::of(&received.state))
+        }
+        None => (if mode(number).is_some() { 3 } else { 1 }, 0, given),
+    };
+    let Given { waiting, trusted, history, command, octets } = after;
+    let digests = [Digest::of(&octets), digest_of(&lent)].map(Digest::hexadecimal).join(" ");
+    format!("receive {refusal} {count} {waiting} {history} {trusted} {command} {digests}")
+}
+
+/// The fields of both locks, in the order of `Lock::numbers`.
+type Numbers = [u32; 10];
+
+fn draw_headers(generator: &mut Generator, seen: u32) -> u32 {
+    let any = draw_number(generator, 1 << 16) << 16 | draw_number(generator, 1 << 16);
+    let headers = if generator.draw(2) == 0 { any / 16 * 16 | 256 } else { any };
+    if generator.rarely() {
+        headers
+    } else {
+        (u64::from(headers) % (1 << seen)) as u32
+    }
+}
+
+fn draw_next(generator: &mut Generator, phase: u32, period: u32) -> u32 {
+    if phase != 1 && phase != 2 {
+        0
+    } else if generator.draw(2) == 0 {
+        1
+    } else {
+        1 + draw_number(generator, period)
+    }
+}
+
+fn draw_lock(generator: &mut Generator, e: u32) -> Numbers {
+    let period = 32 * e.max(1);
+    let locked = or_rather(generator, &[0, 1, 1, 1, 1, 1, 1, 1], 2);
+    let offset = draw_number(generator, 66);
+    let offset = or_more(generator, offset, 66);
+    let run = draw_number(generator, 64);
+    let run = or_more(generator, run, 64);
+    let bad = if locked == 1 { draw_number(generator, 16) } else { 0 };
+    let bad = or_more(generator, bad, 16);
+    let phase = or_rather(generator, &[0, 1, 2], 3);
+    let seen = or_rather(generator, &[0, 5, 31, 32, 32, 32, 32, 32], 33);
+    let headers = draw_headers(generator, seen);
+    let good = if phase == 1 { 1 + draw_number(generator, 3) } else { 0 };
+    let good = or_more(generator, good, 4);
+    let missed = if phase == 2 { draw_number(generator, 8) } else { 0 };
+    let missed = or_more(generator, missed, 8);
+    let next = draw_next(generator, phase, period);
+    let next = or_more(generator, next, period);
+    if locked == 0 && generator.draw(4) != 0 {
+        return [locked, offset, run, bad, 0, 0, 0, 0, 0, 0];
+    }
+    [locked, offset, run, bad, phase, seen, headers, good, missed, next]
+}
+
+/// The locks that numbers stand for, if the flag and the phase are one.
+fn lock_of(numbers: Numbers) -> Option<Lock> {
+    let [locked, offset, run, bad, phase, seen, headers, good, missed, next] = numbers;
+    let phase = *[Phase::Hunting, Phase::Following, Phase::Locked].get(phase as usize)?;
+    let headers: [bool; BLOCKS] = bits::of_number(u64::from(headers), BLOCKS).try_into().ok()?;
+    let header = HeaderLock { locked: locked == 1, offset, run, bad };
+    let extended = ExtendedLock { phase, seen, headers, good, bad: missed, next };
+    Some(Lock { header, extended }).filter(|_| locked < 2)
+}
+
+fn step(generator: &mut Generator) -> String {
+    let number = generator.one_of(&MODES);
+    let e = generator.one_of(&EXTENTS);
+    let numbers = draw_lock(generator, e);
+    let header = draw_number(generator, 4);
+    let header = or_more(generator, header, 4) as u8;
+    let (refusal, after) = match lock_of(numbers) {
+        Some(lock) => {
+            let stepped = lock::step(number, e, lock, header);
+            (stepped.refusal, stepped.lock.numbers())
+        }
+        None if mode(number).is_none() => (1, numbers.map(u64::from)),
+        None => (if is_extent(e) { 3 } else { 2 }, numbers.map(u64::from)),
+    };
+    format!("step {refusal} {}", after.map(|number| number.to_string()).join(" "))
+}
+
+fn longest(generator: &mut Generator) -> String {
+    let count = generator.draw(12);
+    let statuses: Vec<u8> = (0..count).map(|_| generator.one_of(&[0, 0, 0, 0, 1, 1, 1, 2, 3, 4, 5, 255])).collect();
+    let more = if generator.rarely() { 1 + generator.draw(255) } else { 0 };
+    let octets = vec![0; USER_OCTETS * (count + usize::from(generator.rarely())) + more];
+    let refusal = longest::longest_run(&octets, &statuses).refusal;
+    let (start, count) = if refusal == 0 { longest::span(&statuses) } else { (0, 0) };
+    format!("longest {refusal} {start} {count}")
+}
+
+fn call(seed: u64) -> String {
+    let mut generator = Generator::seeded(seed);
+    match generator.draw(4) {
+        0 => send(&mut generator),
+        1 => receive(&mut generator),
+        2 => step(&mut generator),
+        _ => longest(&mut generator),
+    }
+}
+
+pub fn line(seed: u64) -> String {
+    format!("{seed} {}", call(seed))
+}
+
+#[cfg(test)]
+mod tests {
+    use super::call;
+    use std::collections::HashMap;
+
+    #[test]
+    fn every_call_is_accepted_and_refused_by_each_number() {
+        let mut seen: HashMap<(String, String), usize> = HashMap::new();
+        for seed in 1..=4000 {
+            let line = call(seed);
+            let mut words = line.split(' ').map(str::to_string);
+            *seen.entry((words.next().unwrap(), words.next().unwrap())).or_default() += 1;
+        }
+        let numbers =
+            [("send", &[0, 1, 2, 3, 4, 5, 6, 7][..]), ("receive", &[0, 1, 3, 4, 5, 7]), ("step", &[0, 1, 2, 3, 9])];
+        for (name, refusals) in numbers.iter().chain(&[("longest", &[0, 4][..])]) {
+            for refusal in *refusals {
+                let count = seen.get(&(name.to_string(), refusal.to_string())).copied().unwrap_or(0);
+                assert!(count > 2, "{name} refused by {refusal}: {count}");
+            }
+        }
+    }
+}

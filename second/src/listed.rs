@@ -1,0 +1,111 @@
+//! `SEED listing`: the listing of a seeded capture (cases.rs has the generator and the digest).
+//!
+//! Drawn: mode, E and a damaged lane (damaged.rs). If draw(64) is 0, the lane becomes 239 + draw(3) multiblocks of octets,
+//! draw(256) each. If draw(4) is 0, only its first draw(M + 1) multiblocks are kept, of M. If draw(12) is 6, it loses its
+//! last draw(264) octets, or all. This is made a capture; and then, where draw(12) was
+//!   0  the mode becomes draw(256)
+//!   1  E becomes [0, 1, 256, 257][draw(4)]
+//!   2  E becomes draw(65536)
+//!   3  octet draw(11) becomes draw(256)
+//!   4  only the first draw(L + 1) octets are kept, of L
+//!   5  1 + draw(300) octets more, draw(256) each
+//! The text lent has 4,096 octets; if draw(8) is 0, draw(64). Each is 165 before.
+//! A line: `SEED listing LENGTH REFUSAL COUNT DIGEST`, with the length of the capture and the digest of all octets lent.
+
+use crate::captures::capture;
+use crate::damaged;
+use crate::digest::Digest;
+use crate::generator::Generator;
+use crate::listing;
+use crate::mode::LANE_OCTETS;
+
+const BEFORE: u8 = 165;
+const ROOM: usize = 4096;
+
+fn draw_lane(generator: &mut Generator, damaged: Vec<u8>) -> Vec<u8> {
+    let mut lane = damaged;
+    if generator.draw(64) == 0 {
+        let multiblocks = 239 + generator.draw(3);
+        lane = generator.draw_octets(LANE_OCTETS * multiblocks);
+    }
+    if generator.draw(4) == 0 {
+        lane.truncate(LANE_OCTETS * generator.draw(lane.len() / LANE_OCTETS + 1));
+    }
+    lane
+}
+
+fn draw_capture(generator: &mut Generator) -> Vec<u8> {
+    let case = damaged::draw_case(generator);
+    let mut lane = draw_lane(generator, case.lane);
+    let form = generator.draw(12);
+    if form == 6 {
+        lane.truncate(lane.len().saturating_sub(generator.draw(LANE_OCTETS)));
+    }
+    let of_mode = |mode: u8| capture(mode, case.e as u16, &lane);
+    let of_extent = |e: usize| capture(case.mode, e as u16, &lane);
+    let mut whole = of_mode(case.mode);
+    match form {
+        0 => of_mode(generator.draw_octet()),
+        1 => of_extent(generator.one_of(&[0, 1, 256, 257])),
+        2 => of_extent(generator.draw(65536)),
+        3 => {
+            let place = generator.draw(11);
+            whole[place] = generator.draw_octet();
+            whole
+        }
+        4 => {
+            whole.truncate(generator.draw(whole.len() + 1));
+            whole
+        }
+        5 => {
+            let more = 1 + generator.draw(300);
+            [whole, generator.draw_octets(more)].concat()
+        }
+        _ => whole,
+    }
+}
+
+/// The refusal, the octets of text, and the text lent at exit.
+fn list(capture: &[u8], room: usize) -> (u8, usize, Vec<u8>) {
+    let mut text = vec![BEFORE; room];
+    match listing::lines(capture) {
+        Err(refusal) => (refusal, 0, text),
+        Ok(lines) => {
+            let listing: String = lines.iter().map(|line| format!("{line}\n")).collect();
+            if listing.len() > room {
+                return (7, 0, text);
+            }
+            text[..listing.len()].copy_from_slice(listing.as_bytes());
+            (0, listing.len(), text)
+        }
+    }
+}
+
+fn outcome(seed: u64) -> (usize, u8, usize, Vec<u8>) {
+    let mut generator = Generator::seeded(seed);
+    let capture = draw_capture(&mut generator);
+    let room = if generator.draw(8) == 0 { generator.draw(64) } else { ROOM };
+    let (refusal, count, text) = list(&capture, room);
+    (capture.len(), refusal, count, text)
+}
+
+pub fn line(seed: u64) -> String {
+    let (length, refusal, count, text) = outcome(seed);
+    format!("{seed} listing {length} {refusal} {count} {}", Digest::of(&text).hexadecimal())
+}
+
+#[cfg(test)]
+mod tests {
+    use super::outcome;
+
+    #[test]
+    fn every_refusal_and_the_longest_occur() {
+        let outcomes: Vec<(usize, u8, usize)> =
+            (1..=1000).map(outcome).map(|(length, refusal, count, _)| (length, refusal, count)).collect();
+        for refusal in [0, 1, 2, 4, 7, 8] {
+            assert!(outcomes.iter().filter(|outcome| outcome.1 == refusal).count() > 9, "refusal {refusal}");
+        }
+        assert!(outcomes.iter().any(|outcome| outcome.0 == 63_371 && outcome.1 == 0));
+        assert!(outcomes.iter().any(|outcome| outcome.0 > 63_371 && outcome.1 == 8));
+    }
+}
