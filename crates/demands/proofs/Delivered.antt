@@ -2,7 +2,7 @@
 -- so which octets it releases. Assumes nothing.
 use mathlib.Core.Path.{_≡_, refl, sym, ap, ap₂, _∙_, subst}
 use mathlib.Core.Logic.{_⊎_, inl, inr, _≢_, ⊎-elim}
-use mathlib.Core.Bool.{Bool, true, false}
+use mathlib.Core.Bool.{Bool, true, false, true≢false}
 use mathlib.Core.List.{List}
 use Prim.Native.Nat.{ℕ, zero, suc, _+_, _-_, _*_, _%_, _^_, _<_, _≤_}
 use native.Mathlib.Nat.{mod-eq-of-lt, mul-suc}
@@ -34,9 +34,6 @@ use Rattle.receiver.proofs.Judging.{judged-sound, judged-failed, judged-burst, 
 use Rattle.demands.specs.Damage.{Pairwise}
 use Rattle.demands.proofs.Wrong as W
 use Rattle.demands.proofs.Sent.{Sends}
-
-true-not-false : true ≡ false → ⊥
-true-not-false e = let z : _≡_ {A = ℕ} 0 1 = cc in omega arith
 
 -- a burst of at most b bits is one of at most c bits
 wider : (b c n : ℕ) (f : ℕ → ℕ) → b ≤ c → BurstSet b n f → BurstSet c n f
@@ -236,11 +233,11 @@ module _ (R : Row) (lanes : Lanes R) where
 
       -- a history is trusted only after a multiblock that is right
       trusted-right : (i j : ℕ) → suc i < n → waiting R b i .trusted ≡ true → Right i → j < 256 → octet i j ≡ getD user (256 * (first + i) + j) 0
-      trusted-right zero j l t right h = absurd (true-not-false (sym t ∙ first-trusted R b))
+      trusted-right zero j l t right h = absurd (true≢false (sym t ∙ first-trusted R b))
       trusted-right (suc i) j l t right h = next-octet i j (not-failed i (omega arith) before) right h
         where
           before : verdict R b i .status ≢ 2
-          before e = true-not-false (sym t ∙ next-trusted R b i ∙ untrusted-after (verdict R b i) e)
+          before e = true≢false (sym t ∙ next-trusted R b i ∙ untrusted-after (verdict R b i) e)
 
       -- an octet called sound is the one sent, and so is each after it in its multiblock
       pub sound-octet : (i k j : ℕ) → suc i < n → k ≤ j → j < 256 → sound (status i) k ≡ true → octet i j ≡ getD user (256 * (first + i) + j) 0

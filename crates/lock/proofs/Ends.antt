@@ -18,7 +18,7 @@ use Rattle.lock.proofs.Window.{Seen}
 
 pub too-few : (x : ExtendedLock) → x .seen < 32 → matches x ≡ false
 unfolding matches
-too-few x h = simp (lt-leb 32 (x .seen) h)
+too-few x h = ap (λ (b : Bool). b && eqb (digit 32 (x .headers) 22) 1 && eqb (x .headers % 2 ^ 5) 1) (lt-leb 32 (x .seen) h)
 
 -- the five latest bits of a number that ends in 00001
 ending : (x : ℕ) → x % 2 ^ 5 ≡ 1 → (x / 2 ^ 0 % 2 ≡ 1) × (x / 2 ^ 1 % 2 ≡ 0) × (x / 2 ^ 2 % 2 ≡ 0) × (x / 2 ^ 3 % 2 ≡ 0) × (x / 2 ^ 4 % 2 ≡ 0)

@@ -43,7 +43,7 @@ module _ (R : Row) (lane : ℕ → ℕ) where
   pub step-accepted : (m : ℕ) (s : Receiver) → stateFits R (step R lane m s .state) ≡ true
   unfolding step
   step-accepted m s =
-      either (s .waiting) _ _ (waiting-accepted m _ _ (number-lt (bitAt (mendedAt R lane m s)) (bitAt-lt (mendedAt R lane m s)) 1990 58)) (waiting-accepted m 0 false (pow-pos 58))
+      either (s .waiting) _ _ (waiting-accepted m _ _ (number-lt (bitAt _) (bitAt-lt _) 1990 58)) (waiting-accepted m 0 false (pow-pos 58))
 
   pub accepted-again : (s : Receiver) (n : ℕ) → stateFits R s ≡ true → stateFits R (run R lane s n .state) ≡ true
   unfolding run

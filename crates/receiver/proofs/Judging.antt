@@ -1,8 +1,8 @@
 -- What a verdict is by the difference of the two parities, what it mends, and what is marked of it: document 01, "What the receiver releases".
 -- Assumes nothing.
-use mathlib.Core.Path.{_≡_, refl, ap, _∙_}
+use mathlib.Core.Path.{_≡_, refl, sym, ap, _∙_}
 use mathlib.Core.Logic.{_⊎_, inl, inr, _≢_}
-use mathlib.Core.Bool.{Bool, true, false}
+use mathlib.Core.Bool.{Bool, true, false, true≢false}
 use mathlib.Core.List.{List}
 use Prim.Native.Nat.{ℕ, zero, suc, _+_, _*_, _≤_, _<_}
 use native.Mathlib.Nat.{add-zero}
@@ -25,9 +25,6 @@ use Rattle.receiver.specs.declared.Verdict.{Verdict}
 use Rattle.receiver.specs.Judge.{agrees, failed, byBurst, verdictOf, judged, mended, marked, trustedAfter}
 use Rattle.receiver.specs.Sound.{sound}
 use Rattle.receiver.proofs.Mending.{flips-none}
-
-false-not-true : false ≡ true → ⊥
-false-not-true e = let z : _≡_ {A = ℕ} 0 1 = cc in omega arith
 
 module _ (R : Row) (octets : List ℕ) (parity : ℕ) where
   abbrev difference : ℕ
@@ -88,8 +85,8 @@ believed v trusted j h e = by trusted (v .status) h e
     by : (t : Bool) (n : ℕ) → n ≤ 2 → sound (n + pick t 0 4) j ≡ true → Believed (record { status = n; place = v .place; pattern = v .pattern }) t j
     by true zero h e = record { not-failed = λ z. absurd (omega arith); known = inl refl }
     by true (suc zero) h e = record { not-failed = λ z. absurd (omega arith); known = inl refl }
-    by true (suc (suc zero)) h e = absurd (false-not-true e)
+    by true (suc (suc zero)) h e = absurd (true≢false (sym e))
     by false zero h e = record { not-failed = λ z. absurd (omega arith); known = inr (let l = leb-true _ j e in omega arith) }
     by false (suc zero) h e = record { not-failed = λ z. absurd (omega arith); known = inr (let l = leb-true _ j e in omega arith) }
-    by false (suc (suc zero)) h e = absurd (false-not-true e)
+    by false (suc (suc zero)) h e = absurd (true≢false (sym e))
     by t (suc (suc (suc n))) h e = absurd (omega arith)
