@@ -27,10 +27,10 @@ static const struct library {
 };
 
 enum work { SENDING, RECEIVING, LISTING };
-enum damage { CLEAN, REPAIRED, FAILED };
-enum { CASES = 9, LIBRARY_COUNT = 3, E = 4 };
+enum damage { CLEAN, REPAIRED, LAST, FAILED };
+enum { CASES = 10, LIBRARY_COUNT = 3, E = 4 };
 
-/* A plain search takes so long that the two cases with one in every multiblock have fewer. */
+/* A plain search takes so long that the cases with one in every multiblock have fewer. */
 static const struct made {
     const char *name;
     enum work work;
@@ -43,6 +43,7 @@ static const struct made {
     {"clean-crc12", RECEIVING, 0, CLEAN, 240},
     {"clean-fec", RECEIVING, 1, CLEAN, 240},
     {"repaired-fec", RECEIVING, 1, REPAIRED, 48},
+    {"last-fec", RECEIVING, 1, LAST, 48},
     {"failed-crc12", RECEIVING, 0, FAILED, 240},
     {"failed-fec", RECEIVING, 1, FAILED, 48},
     {"listing-crc12", LISTING, 0, CLEAN, 240},
@@ -85,12 +86,13 @@ static void flip_position(size multiblock, size position) {
     lane[bit / 8] ^= (u8)(192 >> bit % 8);
 }
 
-/* A burst of nine bits anywhere in the codeword; or three bits six apart, which no burst of nine explains: modulo x^17 + 1, which
-   divides the FEC polynomial, they lie in no nine of the seventeen places. */
+/* A burst of nine bits anywhere in the codeword, or the one that a search from place 0 and pattern 1 on finds last; or three bits
+   six apart, which no burst of nine explains: modulo x^17 + 1, which divides the FEC polynomial, they lie in no nine of the
+   seventeen places. */
 static void hit(size multiblock, enum damage damage) {
-    if (damage == REPAIRED) {
-        size place = draw(2066);
-        u32 pattern = 257 | draw(256);
+    if (damage == REPAIRED || damage == LAST) {
+        size place = damage == LAST ? 2065 : draw(2066);
+        u32 pattern = damage == LAST ? 511 : 257 | draw(256);
         for (size k = 0; k < 9; k++)
             if (pattern >> k & 1)
                 flip_position(multiblock, place + k);
@@ -145,11 +147,12 @@ static void turn(const struct made *made, const struct library *library, struct 
 
 /* Not refused, the whole count, and of a receiver the status that the case is made for; the first has nothing trusted before it. */
 static int as_made(const struct made *made, const struct results *got) {
+    static const u8 statuses[] = {0, 1, 1, 2};
     size n = made->multiblocks;
     if (got->numbers[0] != 0 || (made->work == LISTING ? got->numbers[1] < 8 * n : got->numbers[1] != n))
         return 0;
     for (size k = 0; made->work == RECEIVING && k < n; k++)
-        if (got->statuses[k] != made->damage + (k == 0 || made->damage == FAILED ? 4 : 0))
+        if (got->statuses[k] != statuses[made->damage] + (k == 0 || made->damage == FAILED ? 4 : 0))
             return 0;
     return 1;
 }
