@@ -1,0 +1,184 @@
+/* The plain baseline: bit by bit, as document 01 says it, with nothing done for speed but the compiler's -O3. */
+#include "baseline.h"
+
+enum { POSITIONS = 2074, LIMIT = 9 };
+
+/* What stands at each position of a sync word: a bit of the parity, a bit of the command, the end mark, or a fixed bit. */
+enum { COMMAND = 32, MARK = 64, ZERO, ONE };
+static const u8 LAYOUTS[2][32] = {
+    {11, 10, 9, ONE, 8, 7, 6, ONE, 5, 4, 3, ONE, 2, 1, 0, ONE, COMMAND + 6, COMMAND + 5, COMMAND + 4, ONE, COMMAND + 3, ONE, MARK,
+        ONE, COMMAND + 2, COMMAND + 1, COMMAND, ZERO, ZERO, ZERO, ZERO, ONE},
+    {25, 24, 23, 22, 21, 20, 19, 18, 17, 16, 15, 14, 13, 12, 11, 10, 9, 8, 7, 6, 5, 4, MARK, 3, 2, 1, 0, ZERO, ZERO, ZERO, ZERO, ONE},
+};
+
+static u32 weights[POSITIONS];
+
+static u32 bit_at(const u8 *octets, size bit) {
+    return octets[bit / 8] >> (7 - bit % 8) & 1;
+}
+
+static void put_bit(u8 *octets, size bit, u32 value) {
+    u8 mask = (u8)(128 >> bit % 8);
+    if (value)
+        octets[bit / 8] |= mask;
+    else
+        octets[bit / 8] &= (u8)~mask;
+}
+
+static u32 times_x(u8 mode, u32 remainder) {
+    u32 width = mode ? 26 : 12, lower = mode ? FEC_LOWER : CRC12_LOWER;
+    u32 top = remainder >> (width - 1) & 1;
+    remainder = remainder << 1 & ((1u << width) - 1);
+    return top ? remainder ^ lower : remainder;
+}
+
+static u32 next_remainder(u8 mode, u32 remainder, u32 bit) {
+    return times_x(mode, remainder ^ bit << (mode ? 25 : 11));
+}
+
+static u32 remainder_of(u8 mode, const u8 *octets) {
+    u32 remainder = 0;
+    for (size bit = 0; bit < 2048; bit++)
+        remainder = next_remainder(mode, remainder, bit_at(octets, bit));
+    return remainder;
+}
+
+__attribute__((constructor)) static void make_weights(void) {
+    u32 weight = 1;
+    for (size position = POSITIONS; position-- > 0; weight = times_x(1, weight))
+        weights[position] = weight;
+}
+
+static u32 sync_bit(u8 mode, size position, u32 parity, u32 command, u32 mark) {
+    u8 field = LAYOUTS[mode][position];
+    if (field >= MARK)
+        return field == MARK ? mark : field == ONE;
+    return field >= COMMAND ? command >> (field - COMMAND) & 1 : parity >> field & 1;
+}
+
+static void send_one(u8 mode, u32 e, struct zaytulobe_sender *state, const u8 *user, u32 command, u8 *lane) {
+    u32 parity = 0, last = state->number + 1 == e;
+    for (size block = 0; block < 32; block++) {
+        u32 carried = sync_bit(mode, block, state->parity, command, last);
+        put_bit(lane, 66 * block, !carried);
+        put_bit(lane, 66 * block + 1, carried);
+        for (size bit = 0; bit < 64; bit++) {
+            u32 sent = bit_at(user, 64 * block + bit) ^ (state->history >> 38 & 1) ^ (state->history >> 57 & 1);
+            put_bit(lane, 66 * block + 2 + bit, sent);
+            state->history = state->history << 1 | sent;
+            parity = next_remainder(mode, parity, sent);
+        }
+    }
+    state->history &= (1ul << 58) - 1;
+    state->parity = parity;
+    state->number = last ? 0 : state->number + 1;
+}
+
+SEND(plain_send) {
+    struct zaytulobe_sent sent = {0, 0, state};
+    sent.refusal = send_refusal(mode, e, state, user_length, commands, commands_length, lane_length);
+    if (sent.refusal)
+        return sent;
+    for (size k = 0; k < commands_length; k++)
+        send_one(mode, e, &sent.state, user + 256 * k, commands[k], lane + 264 * k);
+    sent.count = commands_length;
+    return sent;
+}
+
+struct heard {
+    u32 parity, command;
+    u8 octets[256];
+};
+
+static void hear(u8 mode, const u8 *lane, struct heard *heard) {
+    u32 invalid = 0;
+    heard->parity = heard->command = 0;
+    for (size block = 0; block < 32; block++) {
+        u32 first = bit_at(lane, 66 * block), second = bit_at(lane, 66 * block + 1), carried = !first && second;
+        u8 field = LAYOUTS[mode][block];
+        if (field < COMMAND) {
+            heard->parity |= carried << field;
+        } else if (field < MARK) {
+            heard->command |= carried << (field - COMMAND);
+            invalid |= first == second;
+        }
+        for (size bit = 0; bit < 64; bit++)
+            put_bit(heard->octets, 64 * block + bit, bit_at(lane, 66 * block + 2 + bit));
+    }
+    heard->command += invalid << 7;
+}
+
+static int find_burst(u32 difference, u16 *place, u16 *pattern) {
+    for (u32 at = 0; at < POSITIONS; at++) {
+        u32 end = at + LIMIT <= POSITIONS ? 1u << LIMIT : 1u << (POSITIONS - at);
+        for (u32 flips = 1; flips < end; flips += 2) {
+            u32 sum = 0;
+            for (u32 k = 0; k < LIMIT; k++)
+                if (flips >> k & 1)
+                    sum ^= weights[at + k];
+            if (sum == difference) {
+                *place = (u16)at;
+                *pattern = (u16)flips;
+                return 1;
+            }
+        }
+    }
+    return 0;
+}
+
+static void flip(u8 *octets, u16 place, u16 pattern) {
+    for (size k = 0; k < LIMIT; k++)
+        if (pattern >> k & 1 && place + k < 2048)
+            put_bit(octets, place + k, !bit_at(octets, place + k));
+}
+
+static u64 descramble(const u8 *octets, u64 history, u8 *out) {
+    for (size bit = 0; bit < 2048; bit++) {
+        u32 received = bit_at(octets, bit);
+        put_bit(out, bit, received ^ (history >> 38 & 1) ^ (history >> 57 & 1));
+        history = history << 1 | received;
+    }
+    return history & ((1ul << 58) - 1);
+}
+
+static void await(struct zaytulobe_receiver *state, const struct heard *heard) {
+    state->waiting = 1;
+    state->command = heard->command;
+    memcpy(state->octets, heard->octets, 256);
+}
+
+RECEIVE(plain_receive) {
+    struct zaytulobe_received received = {0, 0, state};
+    received.refusal = receive_refusal(mode, &state, lane_length, octets_length, statuses_length, commands_length, places_length,
+        patterns_length);
+    if (received.refusal)
+        return received;
+    struct zaytulobe_receiver *now = &received.state;
+    size released = 0;
+    for (size at = 0; at < lane_length; at += 264) {
+        struct heard heard;
+        hear(mode, lane + at, &heard);
+        if (now->waiting) {
+            u32 difference = remainder_of(mode, now->octets) ^ heard.parity;
+            u16 place = 0, pattern = 0;
+            u8 status = 0;
+            if (difference) {
+                status = mode && find_burst(difference, &place, &pattern) ? 1 : 2;
+                flip(now->octets, place, pattern);
+            }
+            now->history = descramble(now->octets, now->history, octets + 256 * released);
+            statuses[released] = now->trusted ? status : status + 4;
+            commands[released] = now->command;
+            places[released] = place;
+            patterns[released++] = pattern;
+            now->trusted = status != 2;
+        }
+        await(now, &heard);
+    }
+    received.count = released;
+    return received;
+}
+
+LISTING(plain_listing) {
+    return list(plain_receive, capture, capture_length, text, text_length);
+}
