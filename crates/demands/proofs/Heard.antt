@@ -1,43 +1,53 @@
 -- Calls of the receiver, one after another, release together what one run over all their lane octets releases: document 01, "What the receiver
 -- releases". Assumes nothing.
-use mathlib.Core.Path.{_≡_, refl, sym, ap, ap₂, _∙_}
+use mathlib.Core.Path.{_≡_, sym, ap, ap₂, _∙_, fun-ext}
 use mathlib.Core.List.{List, [], _∷_, _++_}
 use Prim.Native.Nat.{ℕ, suc, _+_, _-_, _*_, _/_, _<_, _≤_}
+use native.Mathlib.Nat.{mul-zero, zero-div, mul-add, mul-assoc, mul-le-mul-left, mul-div-cancel-left}
 use native.Mathlib.Omega.{arith}
 use lib.ListN.{length, take, drop, length-append}
 use lib.Seq.{drop-at}
 use Rattle.bits.specs.Order.{bitAt, laid}
-use Rattle.bits.proofs.Octets.{bit-append}
+use Rattle.bits.proofs.Octets.{bit-drop, bit-append}
 use Rattle.bits.proofs.Laid.{taken-back}
 use Rattle.frame.specs.Modes.{Row, row, parity, command}
 use Rattle.frame.specs.Lane.{laneOctets, headerPlace, dataPlace, dataBit, headerAt, syncBit, spoiltBit}
 use Rattle.frame.specs.SyncWord.{readParity, markedCommand}
 use Rattle.frame.proofs.SyncWord.{Stands, place, row-stands, only-parity, only-marked}
 use Rattle.frame.proofs.Lane.{laneFrom, same-sync, same-spoilt}
-use Rattle.frame.proofs.Sizes.{row-octets}
 use Rattle.frame.proofs.Places.{data-is, header-same}
 use Rattle.receiver.specs.declared.Receiver.{Receiver}
 use Rattle.receiver.specs.Release.{Release, Step, run}
 use Rattle.receiver.specs.Entry.{Done, octetsOut, listed, laidOut}
-use Rattle.receiver.proofs.Cut.{then, same-reading, run-cut, bits-from}
+use Rattle.receiver.proofs.Cut.{then, same-reading, run-cut}
 use Rattle.receiver.proofs.Answers.{all-run, all-whole}
 use Rattle.receiver.proofs.Buffers.{listed-length}
-use Rattle.receiver.proofs.Numbered.{octets-append, listed-append, all-full}
+use Rattle.receiver.proofs.Numbered.{octets-append, listed-append, none-out, none-listed, all-full}
 use Rattle.demands.specs.Calls.{Receiving, receiving, laneHeard, AllHeard, octetsReleased, statusesReleased}
-use Rattle.demands.proofs.Places.{data-inside, header-inside}
+use Rattle.demands.proofs.Places.{octets-some, data-inside, header-inside}
 
 abbrev status : Release → ℕ
 status r = r .status
+
+-- a lane from a multiblock on
+bits-from : (gap : ℕ) (lane : List ℕ) (k : ℕ) → bitAt (drop (laneOctets gap * k) lane) ≡ laneFrom gap (bitAt lane) k
+bits-from gap lane k = fun-ext (λ x. bit-drop (laneOctets gap * k) lane x ∙ ap (bitAt lane) (omega (arith, mul-assoc 8 (laneOctets gap) k)))
 
 module _ (mode : ℕ) where
   abbrev R : Row
   R = row mode
 
+  -- octets of a multiblock
+  abbrev L : ℕ
+  L = laneOctets (R .gap)
+
   -- ---- lane octets behind others change nothing of the multiblocks before
 
-  module _ (a b : List ℕ) (k : ℕ) (long : length a ≡ 264 * k) where
-    same : (x m : ℕ) → m < k → x < 8 * laneOctets (R .gap) * suc m → bitAt (a ++ b) x ≡ bitAt a x
-    same x m h l = bit-append a b x (omega (arith, ap (λ (y : ℕ). 8 * y * suc m) (row-octets mode)))
+  module _ (a b : List ℕ) (k : ℕ) (long : length a ≡ L * k) where
+    same : (x m : ℕ) → m < k → x < 8 * L * suc m → bitAt (a ++ b) x ≡ bitAt a x
+    same x m h l =
+        let within : 8 * L * suc m ≤ 8 * L * k = mul-le-mul-left (8 * L) h in
+        bit-append a b x (omega (arith, long, mul-assoc 8 L k))
 
     same-header : (m t : ℕ) → m < k → t < 32 → headerAt (R .gap) (bitAt (a ++ b)) m t ≡ headerAt (R .gap) (bitAt a) m t
     same-header m t h l =
@@ -72,18 +82,18 @@ module _ (mode : ℕ) where
     both s n =
         run-cut R (bitAt (a ++ b)) s k n
         ∙ ap₂ (λ (f : ℕ → ℕ) (x : Step). then x (run R f (x .state) n))
-        (sym (bits-from mode (a ++ b) k) ∙ ap bitAt (drop-at a b (264 * k) long)) (prefix s)
+        (sym (bits-from (R .gap) (a ++ b) k) ∙ ap bitAt (drop-at a b (L * k) long)) (prefix s)
 
   -- ---- all calls
 
   pub record AllRun (s : Receiver) (calls : List Receiving) : Type 0 where
-    pub whole : length (laneHeard calls) ≡ 264 * (length (laneHeard calls) / 264)
-    pub octets : octetsReleased mode s calls ≡ octetsOut (run R (bitAt (laneHeard calls)) s (length (laneHeard calls) / 264) .out)
-    pub statuses : statusesReleased mode s calls ≡ listed status (run R (bitAt (laneHeard calls)) s (length (laneHeard calls) / 264) .out)
+    pub whole : length (laneHeard calls) ≡ L * (length (laneHeard calls) / L)
+    pub octets : octetsReleased mode s calls ≡ octetsOut (run R (bitAt (laneHeard calls)) s (length (laneHeard calls) / L) .out)
+    pub statuses : statusesReleased mode s calls ≡ listed status (run R (bitAt (laneHeard calls)) s (length (laneHeard calls) / L) .out)
 
   module _ (s : Receiver) (c : Receiving) (z : receiving mode s c .answer .refusal ≡ 0) where
     k : ℕ
-    k = length (c .lane) / 264
+    k = length (c .lane) / L
 
     abbrev ran : Step
     ran = run R (bitAt (c .lane)) s k
@@ -92,7 +102,7 @@ module _ (mode : ℕ) where
     unfolding k
     is = all-run mode s (c .lane) (c .octets) (c .statuses) (c .commands) (c .places) (c .patterns) z
 
-    long : length (c .lane) ≡ 264 * k
+    long : length (c .lane) ≡ L * k
     unfolding k
     long = all-whole mode s (c .lane) (c .octets) (c .statuses) (c .commands) (c .places) (c .patterns) z
 
@@ -110,16 +120,19 @@ module _ (mode : ℕ) where
 
     module _ (calls : List Receiving) (rest : AllRun (receiving mode s c .answer .state) calls) where
       n : ℕ
-      n = length (laneHeard calls) / 264
+      n = length (laneHeard calls) / L
 
       more : Step
       more = run R (bitAt (laneHeard calls)) (ran .state) n
 
-      count : length (c .lane ++ laneHeard calls) / 264 ≡ k + n
+      both-whole : length (c .lane ++ laneHeard calls) ≡ L * (k + n)
       unfolding n
-      count = ap (λ (x : ℕ). x / 264) {x = length (c .lane ++ laneHeard calls)} {y = 264 * (k + n)} (omega (arith, length-append (c .lane) (laneHeard calls), long, rest .whole)) ∙ omega arith
+      both-whole = length-append (c .lane) (laneHeard calls) ∙ ap₂ _+_ long (rest .whole) ∙ sym (mul-add L k n)
 
-      out-is : run R (bitAt (c .lane ++ laneHeard calls)) s (length (c .lane ++ laneHeard calls) / 264) .out ≡ ran .out ++ more .out
+      count : length (c .lane ++ laneHeard calls) / L ≡ k + n
+      count = ap (λ (x : ℕ). x / L) both-whole ∙ mul-div-cancel-left (k + n) (octets-some (R .gap))
+
+      out-is : run R (bitAt (c .lane ++ laneHeard calls)) s (length (c .lane ++ laneHeard calls) / L) .out ≡ ran .out ++ more .out
       unfolding more
       out-is = ap (λ (x : ℕ). run R (bitAt (c .lane ++ laneHeard calls)) s x .out) count ∙ ap (λ (x : Step). x .out) (both (c .lane) (laneHeard calls) k long s n)
 
@@ -130,7 +143,7 @@ module _ (mode : ℕ) where
       with-call : AllRun s (c ∷ calls)
       unfolding n
       with-call = record {
-        whole = omega (arith, length-append (c .lane) (laneHeard calls), long, rest .whole, count);
+        whole = both-whole ∙ ap (λ (x : ℕ). L * x) (sym count);
         octets =
             ap₂ _++_ octets-taken (rest .octets ∙ ap (λ (x : Step). octetsOut (x .out)) state-is)
             ∙ sym (octets-append (ran .out) (more .out))
@@ -142,6 +155,14 @@ module _ (mode : ℕ) where
       }
 
   pub all-calls : (s : Receiver) (calls : List Receiving) → AllHeard mode s calls → AllRun s calls
-  unfolding run octetsOut listed
-  all-calls s [] h = record { whole = refl; octets = refl; statuses = refl }
+  all-calls s [] h = record { whole = sym (ap (λ (x : ℕ). L * x) none ∙ mul-zero L); octets = octets; statuses = statuses }
+    where
+      none : 0 / L ≡ 0
+      none = zero-div L
+
+      octets : [] ≡ octetsOut (run R (bitAt []) s (0 / L) .out)
+      octets = sym (ap (λ (n : ℕ). octetsOut (run R (bitAt []) s n .out)) none ∙ none-out R (bitAt []) s)
+
+      statuses : [] ≡ listed status (run R (bitAt []) s (0 / L) .out)
+      statuses = sym (ap (λ (n : ℕ). listed status (run R (bitAt []) s n .out)) none ∙ none-listed status R (bitAt []) s)
   all-calls s (c ∷ calls) h = with-call s c (h .0) calls (all-calls (receiving mode s c .answer .state) calls (h .1))

@@ -32,6 +32,10 @@ near g a b c e x y hx hy h k =
     let n : g * (b + 448) ≡ g * b + g * 448 = mul-add g b 448 in
     omega arith
 
+-- a multiblock has some octets
+pub octets-some : (g : ℕ) → 0 < laneOctets g
+octets-some g = let e = start-form g 1 in omega arith
+
 -- what a multiblock has stands before the next one
 pub data-inside : (g m q : ℕ) → q < 2048 → dataPlace g m q < 8 * laneOctets g * suc m
 data-inside g m q h =

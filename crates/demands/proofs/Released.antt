@@ -2,6 +2,7 @@
 use mathlib.Core.Path.{_≡_, refl, sym, ap, _∙_, subst}
 use mathlib.Core.List.{List}
 use Prim.Native.Nat.{ℕ, zero, suc, _+_, _-_, _*_, _/_, _<_, _≤_}
+use native.Mathlib.Nat.{mul-add, mul-assoc, le-of-mul-le-mul-left}
 use native.Mathlib.Omega.{arith}
 use lib.Bits.{bitXor}
 use lib.ListN.{length, getD}
@@ -11,7 +12,7 @@ use Rattle.frame.specs.Modes.{Row, row}
 use Rattle.frame.specs.Lane.{laneOctets}
 use Rattle.frame.proofs.Lane.{laneFrom}
 use Rattle.frame.proofs.SyncWord.{row-stands}
-use Rattle.frame.proofs.Sizes.{row-proper, row-octets}
+use Rattle.frame.proofs.Sizes.{row-proper}
 use Rattle.sender.proofs.Runs.{lane-length}
 use Rattle.receiver.specs.Release.{Release, fresh, releaseAt, run}
 use Rattle.receiver.proofs.Afresh.{all-but-one}
@@ -21,6 +22,7 @@ use Rattle.demands.specs.Calls.{userOctets, laneSent, laneHeard}
 use Rattle.demands.specs.Transfer.{Transfer, flips, DamagedBy, releases, released, status}
 use Rattle.demands.specs.Damage.{Pairwise}
 use Rattle.demands.proofs.Pairs.{pairs}
+use Rattle.demands.proofs.Places.{octets-some}
 use Rattle.demands.proofs.Heard.{AllRun, all-calls}
 use Rattle.demands.proofs.Sent.{OneLane, one-lane, allCommands, Sends, sends}
 use Rattle.demands.proofs.Delivered.{Lanes}
@@ -38,7 +40,7 @@ module _ {mode E : ℕ} (t : Transfer mode E) where
 
   -- how many multiblocks it heard
   abbrev pub count : ℕ
-  count = length (laneHeard (t .receivings)) / 264
+  count = length (laneHeard (t .receivings)) / laneOctets (R .gap)
 
   all-run : AllRun mode fresh (t .receivings)
   all-run = all-calls mode fresh (t .receivings) (t .heard)
@@ -46,20 +48,22 @@ module _ {mode E : ℕ} (t : Transfer mode E) where
   one : OneLane mode E (t .start) (t .sendings)
   one = one-lane mode E (t .start) (t .sendings) (t .sent)
 
+  -- no more multiblocks than were sent
+  enough : t .from + count ≤ length (allCommands (t .sendings))
+  enough =
+      let L = laneOctets (R .gap) in
+      let n = length (allCommands (t .sendings)) in
+      let sent : length (laneSent mode E (t .start) (t .sendings)) ≡ L * n = ap length (one .made) ∙ lane-length R E (t .start) (userOctets (t .sendings)) (allCommands (t .sendings)) in
+      let both : L * (t .from + count) ≤ L * n = omega (arith, t .inside, sent, all-run .whole, mul-add L (t .from) count) in
+      le-of-mul-le-mul-left both (octets-some (R .gap))
+
   pub sends-them : Sends R (userOctets (t .sendings)) (t .start .history) (t .from) count before
-  sends-them =
-      sends mode E (t .start) (t .sendings) one (t .from) count
-      (let lane = ap length (one .made) ∙ lane-length R E (t .start) (userOctets (t .sendings)) (allCommands (t .sendings)) in
-      let inside = t .inside in
-      let octets = row-octets mode in
-      let sent : length (laneSent mode E (t .start) (t .sendings)) ≡ 264 * length (allCommands (t .sendings)) = lane ∙ ap (λ (x : ℕ). x * length (allCommands (t .sendings))) octets in
-      let skipped : laneOctets (R .gap) * t .from ≡ 264 * t .from = ap (λ (x : ℕ). x * t .from) octets in
-      omega (arith, all-run .whole))
+  sends-them = sends mode E (t .start) (t .sendings) one (t .from) count enough
 
   pub by-pairs : (limit clear : ℕ) → DamagedBy t limit clear → Pairwise limit clear (8 * laneOctets (R .gap) * count) (flips t)
   by-pairs limit clear damaged =
       subst (λ (n : ℕ). Pairwise limit clear n (flips t)) {x = 8 * length (laneHeard (t .receivings))} {y = 8 * laneOctets (R .gap) * count}
-      (omega (arith, all-run .whole, ap (λ (x : ℕ). 8 * x * count) (row-octets mode)))
+      (omega (arith, all-run .whole, mul-assoc 8 (laneOctets (R .gap)) count))
       (pairs limit clear (8 * length (laneHeard (t .receivings))) (flips t) damaged)
 
   -- a transfer's two lanes, where two multiblocks are no longer than the clear bits between bursts

@@ -104,8 +104,12 @@ module _ (mode : ℕ) (s : Receiver) (lane o st c p q : List ℕ) where
       by false e = refl
 
   module _ (z : entry mode s lane o st c p q .answer .refusal ≡ 0) where
-    pub all-run : entry mode s lane o st c p q ≡ laidOut (run (row mode) (bitAt lane) s (length lane / 264)) o st c p q
-    all-run = is-run mode s lane o st c p q refusal refl (sym answered ∙ z)
+    pub all-run : entry mode s lane o st c p q ≡ laidOut (run (row mode) (bitAt lane) s (length lane / laneOctets (row mode .gap))) o st c p q
+    all-run =
+        is-run mode s lane o st c p q refusal refl (sym answered ∙ z)
+        ∙ ap (λ (n : ℕ). laidOut (run (row mode) (bitAt lane) s (length lane / n)) o st c p q) (sym (row-octets mode))
 
-    pub all-whole : length lane ≡ 264 * (length lane / 264)
-    all-whole = omega (arith, whole mode s lane o st c p q refusal refl (sym answered ∙ z))
+    pub all-whole : length lane ≡ laneOctets (row mode .gap) * (length lane / laneOctets (row mode .gap))
+    all-whole =
+        subst (λ (n : ℕ). length lane ≡ n * (length lane / n)) (sym (row-octets mode))
+        (omega (arith, whole mode s lane o st c p q refusal refl (sym answered ∙ z)))

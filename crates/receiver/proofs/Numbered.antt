@@ -119,6 +119,15 @@ unfolding listed
 listed-append f [] b = refl
 listed-append f (r ∷ a) b = ap (λ (l : List ℕ). f r ∷ l) (listed-append f a b)
 
+-- nothing received releases nothing
+pub none-out : (R : Row) (lane : ℕ → ℕ) (s : Receiver) → octetsOut (run R lane s 0 .out) ≡ []
+unfolding run octetsOut
+none-out R lane s = refl
+
+pub none-listed : (f : Release → ℕ) (R : Row) (lane : ℕ → ℕ) (s : Receiver) → listed f (run R lane s 0 .out) ≡ []
+unfolding run listed
+none-listed f R lane s = refl
+
 -- each release has 256 octets
 module _ (R : Row) (lane : ℕ → ℕ) where
   one-full : (m : ℕ) (s : Receiver) → length (octetsOut (step R lane m s .out)) ≡ 256 * length (step R lane m s .out)
