@@ -1,29 +1,55 @@
 /* driver FIRST LAST: prints a line for the seeded case of each seed from FIRST to LAST, worked by the proved library. The
    second program prints the same lines by `second bulk FIRST LAST`: second/src/bulk.rs says which case a seed is, and
-   lanes.rs, damaged.rs, locks.rs, listed.rs and calls.rs what is drawn and what a line holds. */
+   lanes.rs, damaged.rs, locks.rs, listed.rs and calls.rs what is drawn and what a line holds. Lanes and damaged lanes are
+   worked again with every cut into two calls; where that makes a difference the line says so, and then no longer agrees. */
 #include "calls.h"
 
 u64 strtoul(const char *text, char **end, int base);
+
+/* Two calls: so many multiblocks, and the rest. */
+static void cut_at(size cut) {
+    call_count = 2;
+    calls[0] = cut;
+    calls[1] = drawn.multiblocks - cut;
+}
+
+/* Sends the input in its calls, from a fresh state. */
+static struct zaytulobe_sender send_calls(void) {
+    struct zaytulobe_sender state = zaytulobe_fresh_sender();
+    memset(lane, 0, drawn.lane_length);
+    for (size k = 0, from = 0; k < call_count; from += calls[k++]) {
+        size n = calls[k];
+        state = zaytulobe_send(
+            drawn.mode, drawn.e, state, user + 256 * from, 256 * n, commands + from, n, lane + 264 * from, 264 * n).state;
+    }
+    return state;
+}
+
+static u64 sent_digest(struct zaytulobe_sender state) {
+    u64 digest = with_number(digest_of(lane, drawn.lane_length), state.history);
+    return with_number(with_number(digest, state.parity), state.number);
+}
 
 static void sent_line(u64 seed) {
     draw_settings();
     draw_input(1 + draw(6));
     draw_calls();
-    struct zaytulobe_sender state = zaytulobe_fresh_sender();
-    memset(lane, 0, drawn.lane_length);
-    for (size k = 0, from = 0; k < call_count; from += calls[k++]) {
-        size n = calls[k];
-        struct zaytulobe_sent sent = zaytulobe_send(
-            drawn.mode, drawn.e, state, user + 256 * from, 256 * n, commands + from, n, lane + 264 * from, 264 * n);
-        state = sent.state;
-    }
-    printf("%lu lane %d %u %lu %lu %016lx %lu %u %u\n", seed, drawn.mode, drawn.e, drawn.multiblocks, call_count,
+    struct zaytulobe_sender state = send_calls();
+    printf("%lu lane %d %u %lu %lu %016lx %lu %u %u", seed, drawn.mode, drawn.e, drawn.multiblocks, call_count,
         digest_of(lane, drawn.lane_length), state.history, state.parity, state.number);
+    u64 digest = sent_digest(state);
+    for (size cut = 0; cut <= drawn.multiblocks; cut++) {
+        cut_at(cut);
+        if (sent_digest(send_calls()) != digest)
+            printf(" another if cut at %lu", cut);
+    }
+    printf("\n");
 }
 
-/* Receives the lane in its calls, each release after those before it; the number of all. */
+/* Receives the lane in its calls, from a fresh state, each release after those before it; the number of all. */
 static size receive_calls(struct zaytulobe_receiver *state) {
     size count = 0;
+    *state = zaytulobe_fresh_receiver();
     for (size k = 0, from = 0; k < call_count; from += calls[k++]) {
         size n = calls[k];
         struct zaytulobe_received received = zaytulobe_receive(drawn.mode, *state, lane + 264 * from, 264 * n, octets + 256 * count,
@@ -34,17 +60,36 @@ static size receive_calls(struct zaytulobe_receiver *state) {
     return count;
 }
 
-static void damaged_line(u64 seed) {
-    draw_damaged();
-    draw_calls();
-    struct zaytulobe_receiver state = zaytulobe_fresh_receiver();
-    size count = receive_calls(&state);
-    printf("%lu damaged %d %lu %lu %lu", seed, drawn.mode, drawn.multiblocks, drawn.kind, count);
+static u64 received_digest(const struct zaytulobe_receiver *state, size count) {
+    size rooms[5] = {256 * count, count, count, count, count};
+    u64 digest = with_octets(lent_digest(rooms), state->octets, 256);
+    digest = with_number(with_number(digest, state->history), state->command);
+    return with_octet(with_octet(digest, state->waiting), state->trusted);
+}
+
+static void print_received(const struct zaytulobe_receiver *state, size count) {
     for (size k = 0; k < count; k++)
         printf(" %d/%d/%d/%u", statuses[k], places[k], patterns[k], got_commands[k]);
     struct zaytulobe_run run = zaytulobe_longest_run(octets, 256 * count, statuses, count);
-    printf(" %016lx %d %lu %d %u %016lx %lu %lu\n", digest_of(octets, 256 * count), state.waiting, state.history, state.trusted,
-        state.command, digest_of(state.octets, 256), run.start, run.count);
+    printf(" %016lx %d %lu %d %u %016lx %lu %lu", digest_of(octets, 256 * count), state->waiting, state->history, state->trusted,
+        state->command, digest_of(state->octets, 256), run.start, run.count);
+}
+
+static void damaged_line(u64 seed) {
+    struct zaytulobe_receiver state;
+    draw_damaged();
+    draw_calls();
+    size count = receive_calls(&state);
+    printf("%lu damaged %d %lu %lu %lu", seed, drawn.mode, drawn.multiblocks, drawn.kind, count);
+    print_received(&state, count);
+    u64 digest = received_digest(&state, count);
+    for (size cut = 0; cut <= drawn.multiblocks; cut++) {
+        cut_at(cut);
+        count = receive_calls(&state);
+        if (received_digest(&state, count) != digest)
+            printf(" another if cut at %lu", cut);
+    }
+    printf("\n");
 }
 
 /* The header values of a case, one for each step. */

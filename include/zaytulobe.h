@@ -26,6 +26,10 @@
 #ifndef ZAYTULOBE_H
 #define ZAYTULOBE_H
 
+#ifdef __cplusplus
+extern "C" {
+#endif
+
 typedef unsigned char zaytulobe_u8;
 typedef unsigned short zaytulobe_u16;
 typedef unsigned int zaytulobe_u32;
@@ -152,5 +156,9 @@ struct zaytulobe_stepped zaytulobe_lock_step(
 struct zaytulobe_listed zaytulobe_listing(
     const zaytulobe_u8 *capture, zaytulobe_size capture_length,
     zaytulobe_u8 *text, zaytulobe_size text_length);
+
+#ifdef __cplusplus
+}
+#endif
 
 #endif

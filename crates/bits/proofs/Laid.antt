@@ -8,7 +8,7 @@ use native.Mathlib.Numerals.{add-one}
 use native.Mathlib.Omega.{arith}
 use lib.Dec.{leb, leb→le, le→leb, not-T, lit≤}
 use lib.ListN.{length, set, take, drop, length-append, length-drop, drop-of-length-le}
-use lib.Seq.{append-snoc, set-split, sets-eq, length-take-le, take-at, drop-at, take-all, drop-length, drop-append-add, drop-drop}
+use lib.Seq.{append-snoc, set-split, sets-eq, length-take-le, take-at, drop-at, take-all, drop-length, drop-append-add, drop-drop, take-append-seam}
 use lib.Pow.{shr-shr}
 use borrow.Rule.Slice.PartMut.{putMid, midOf, postOf, post-is}
 use Rattle.bits.specs.Order.{run, number, digit, octetsOf, laid, laidAt}
@@ -23,6 +23,11 @@ length-laid new old h = length-append new (drop (length new) old) ∙ omega (ari
 
 pub length-laid-octets : (f : ℕ → ℕ) (n : ℕ) (old : List ℕ) → n ≤ length old → length (laid (octetsOf f n) old) ≡ length old
 length-laid-octets f n old h = length-laid (octetsOf f n) old (omega (arith, length-octetsOf f n))
+
+-- what was laid is there
+pub taken-back : (new old : List ℕ) → take (length new) (laid new old) ≡ new
+unfolding laid
+taken-back new old = take-append-seam new (drop (length new) old)
 
 pub laid-nothing : (old : List ℕ) → laid [] old ≡ old
 unfolding laid

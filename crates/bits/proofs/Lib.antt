@@ -9,3 +9,4 @@ pub mod Tests
 pub mod Laid
 pub mod Octets
 pub mod Writing
+pub mod Parts

@@ -1,10 +1,10 @@
 -- Octets made of a stream's bits have those bits, and octets made of their own bits are themselves. Assumes nothing.
 use mathlib.Core.Path.{_≡_, sym, ap, ap₂, _∙_}
-use mathlib.Core.List.{List}
+use mathlib.Core.List.{List, _++_}
 use Prim.Native.Nat.{ℕ, _+_, _-_, _*_, _/_, _%_, _^_, _≤_, _<_}
 use native.Mathlib.Nat.{zero-add}
 use native.Mathlib.Omega.{arith}
-use lib.ListN.{length, getD, take, drop}
+use lib.ListN.{length, getD, take, drop, List·getD-append}
 use lib.Seq.{getD-take, getD-drop, length-take-le, ext-getD}
 use Rattle.bits.specs.Order.{bitAt, number, digit, octetsOf}
 use Rattle.bits.proofs.Numbers.{digit-number, number-ext, number-octet, bit-octet}
@@ -51,3 +51,12 @@ pub bit-drop : (a : ℕ) (s : List ℕ) (k : ℕ) → bitAt (drop a s) k ≡ bit
 unfolding bitAt
 bit-drop a s k =
     ap₂ (λ (x y : ℕ). x / 2 ^ (7 - y) % 2) (getD-drop a s (k / 8) 0 ∙ ap (λ (x : ℕ). getD s x 0) {x = a + k / 8} {y = (8 * a + k) / 8} (omega arith)) (omega arith)
+
+-- the first n octets, and octets with others behind them
+pub bit-take : (n : ℕ) (s : List ℕ) (k : ℕ) → k < 8 * n → bitAt (take n s) k ≡ bitAt s k
+unfolding bitAt
+bit-take n s k h = ap (λ (x : ℕ). x / 2 ^ (7 - k % 8) % 2) (getD-take n s (k / 8) 0 (omega arith))
+
+pub bit-append : (s t : List ℕ) (k : ℕ) → k < 8 * length s → bitAt (s ++ t) k ≡ bitAt s k
+unfolding bitAt
+bit-append s t k h = ap (λ (x : ℕ). x / 2 ^ (7 - k % 8) % 2) (List·getD-append s t 0 (k / 8) (omega arith))

@@ -15,7 +15,7 @@ use Rattle.bits.proofs.Laid.{length-laid}
 use Rattle.bits.proofs.Writing.{laid-within}
 use Rattle.frame.specs.Modes.{row}
 use Rattle.frame.specs.Lane.{laneOctets}
-use Rattle.frame.proofs.Lane.{row-octets}
+use Rattle.frame.proofs.Sizes.{row-octets}
 use Rattle.receiver.specs.declared.Receiver.{Receiver}
 use Rattle.receiver.specs.declared.Received.{Received}
 use Rattle.receiver.specs.Release.{Release, Step, fresh, run}

@@ -13,7 +13,7 @@ use Rattle.bits.specs.Choice.{pick}
 use Rattle.bits.specs.Order.{bitAt, number}
 use Rattle.frame.specs.Modes.{row}
 use Rattle.frame.specs.Lane.{laneOctets}
-use Rattle.frame.proofs.Lane.{row-octets}
+use Rattle.frame.proofs.Sizes.{row-octets}
 use Rattle.capture.specs.declared.Opened.{Opened}
 use Rattle.capture.specs.Form.{wellFormed, modeOf, extentOf, laneOf, refusalOf, opened}
 

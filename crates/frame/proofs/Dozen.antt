@@ -5,9 +5,9 @@ use mathlib.Core.List.{List, [], _∷_, List·Memᴰ, List·Memᴰ·head, List·
 use lib.Dec.{T, eqb, eqb→eq}
 use Rattle.bits.specs.Order.{run, number}
 use Rattle.bits.proofs.Tests.{left, right}
-use Rattle.parity.specs.Polynomial.{scale, timesX}
-use Rattle.parity.specs.Remainder.{next, remainderFrom, remainder}
-use Rattle.frame.specs.Scrambling.{sentBit, allSent, sent}
+use Rattle.scrambler.specs.Scrambling.{sentBit, allSent, sent}
+use Rattle.polynomial.specs.Polynomial.{scale, timesX}
+use Rattle.polynomial.specs.Remainder.{next, remainderFrom, remainder}
 use Rattle.frame.specs.SyncWord.{held, syncWord}
 use Rattle.frame.specs.Dozen.{Case, found, wanted, dozen}
 

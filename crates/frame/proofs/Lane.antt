@@ -15,7 +15,6 @@ use Rattle.bits.proofs.Xor.{bit-cases}
 use Rattle.bits.proofs.Numbers.{bitAt-lt, digit-lt}
 use Rattle.bits.proofs.Octets.{length-octetsOf, bit-octetsOf, octetsOf-ext, octetsOf-bits}
 use Rattle.frame.specs.Headers.{value, carries, spoilt, headerOf}
-use Rattle.frame.specs.Modes.{crc12Row, fecRow, row}
 use Rattle.frame.specs.Lane.{blockWidth, laneOctets, headerPlace, dataPlace, dataBit, headerAt, syncBit, spoiltBit, dataOctets, blockBit, multiblockBit, multiblock}
 
 -- ---- a place of a run of blocks: its block, and where in the block
@@ -103,11 +102,11 @@ header-halves : (h : ℕ) → value (h / 2) (h % 2) ≡ h
 unfolding value
 header-halves h = div-add-mod' h 2
 
-carried : (b : ℕ) → b < 2 → carries (headerOf b) ≡ b
+pub carried : (b : ℕ) → b < 2 → carries (headerOf b) ≡ b
 unfolding carries headerOf
 carried b h = bit-cases (λ (b : ℕ). carries (headerOf b) ≡ b) refl refl b h
 
-unspoilt : (b : ℕ) → b < 2 → spoilt (headerOf b) ≡ 0
+pub unspoilt : (b : ℕ) → b < 2 → spoilt (headerOf b) ≡ 0
 unfolding spoilt headerOf
 unspoilt b h = bit-cases (λ (b : ℕ). spoilt (headerOf b) ≡ 0) refl refl b h
 
@@ -129,7 +128,7 @@ module _ (gap sync : ℕ) (octets : List ℕ) (lane : ℕ → ℕ) (begins : (x 
       ∙ block-data gap (digit 32 sync b) (λ q. bitAt octets (64 * b + q)) r
       ∙ ap (bitAt octets) (omega arith)
 
-  header-back : (t : ℕ) → t < 32 → headerAt gap lane 0 t ≡ headerOf (digit 32 sync t)
+  pub header-back : (t : ℕ) → t < 32 → headerAt gap lane 0 t ≡ headerOf (digit 32 sync t)
   unfolding headerAt headerPlace blockBit
   header-back t h =
       let first : lane (blockWidth gap * (32 * 0 + t)) ≡ headerOf (digit 32 sync t) / 2 = ap lane (omega (arith, start t)) ∙ lane-at t 0 h (omega (arith, width gap)) in
@@ -200,23 +199,3 @@ module _ (gap : ℕ) (f g : ℕ → ℕ) (m : ℕ) where
 pub length-data : (gap : ℕ) (lane : ℕ → ℕ) (m : ℕ) → length (dataOctets gap lane m) ≡ 256
 unfolding dataOctets
 length-data gap lane m = length-octetsOf (dataBit gap lane m) 256
-
--- ---- the modes have blocks of 66 bits, and one call takes 240 multiblocks at most
-
-pub row-gap : (mode : ℕ) → row mode .gap ≡ 0
-row-gap mode = either (eqb mode 1)
-  where
-    either : (b : Bool) → pick b fecRow crc12Row .gap ≡ 0
-    either true = refl
-    either false = refl
-
-pub row-octets : (mode : ℕ) → laneOctets (row mode .gap) ≡ 264
-unfolding laneOctets blockWidth
-row-octets mode = ap laneOctets (row-gap mode)
-
-pub row-most : (mode : ℕ) → row mode .most ≡ 240
-row-most mode = either (eqb mode 1)
-  where
-    either : (b : Bool) → pick b fecRow crc12Row .most ≡ 240
-    either true = refl
-    either false = refl

@@ -1,4 +1,4 @@
--- What the rows of all modes have in common, and how many octets scrambling and a multiblock make: document 01, "From octets to lane bits". Assumes nothing.
+-- What the rows of all modes have in common, and how many octets a multiblock makes: document 01, "From octets to lane bits". Assumes nothing.
 use mathlib.Core.Path.{_≡_, refl}
 use mathlib.Core.Bool.{Bool, true, false}
 use mathlib.Core.List.{List}
@@ -6,11 +6,9 @@ use Prim.Native.Nat.{ℕ}
 use lib.Dec.{eqb}
 use lib.ListN.{length}
 use Rattle.bits.specs.Choice.{pick}
-use Rattle.bits.specs.Order.{bitAt}
 use Rattle.bits.proofs.Octets.{length-octetsOf}
 use Rattle.parity.proofs.Bursts.{Proper, crc12-proper, fec-proper}
 use Rattle.frame.specs.Modes.{Row, row, crc12Row, fecRow}
-use Rattle.frame.specs.Scrambling.{sent, scrambled}
 use Rattle.frame.specs.Lane.{blockWidth, laneOctets, multiblock, multiblockBit}
 
 -- what holds of both rows holds of each mode's
@@ -37,7 +35,3 @@ row-octets = of-each (λ (R : Row). laneOctets (R .gap) ≡ 264) refl refl
 pub length-multiblock : (gap sync : ℕ) (octets : List ℕ) → length (multiblock gap sync octets) ≡ laneOctets gap
 unfolding multiblock
 length-multiblock gap sync octets = length-octetsOf (multiblockBit gap sync octets) (laneOctets gap)
-
-pub length-scrambled : (octets : List ℕ) (history n : ℕ) → length (scrambled octets history n) ≡ n
-unfolding scrambled
-length-scrambled octets history n = length-octetsOf (sent (bitAt octets) history) n

@@ -210,6 +210,11 @@ module _ (R : Row) (a b : ℕ → ℕ) where
       let w = R .commandWidth in
       number-ext (λ j. a (place R (command (w - 1 - j)))) (λ j. b (place R (command (w - 1 - j)))) 0 0 w (λ j h. e (w - 1 - (0 + j)) (omega arith))
 
+pub only-marked : (R : Row) (a b bad worse : ℕ → ℕ) → ((k : ℕ) → k < R .commandWidth → a (place R (command k)) ≡ b (place R (command k)))
+    → ((k : ℕ) → k < R .commandWidth → bad (place R (command k)) ≡ worse (place R (command k))) → markedCommand R a bad ≡ markedCommand R b worse
+unfolding markedCommand
+only-marked R a b bad worse e f = ap₂ (λ (x y : ℕ). x + pick (leb 1 y) (2 ^ R .commandWidth) 0) (only-command R a b e) (only-command R bad worse f)
+
 -- 32 sync bits are read alike as a stream and as the number they write
 module _ (R : Row) (s : Stands R) where
   module _ (bits : ℕ → ℕ) (d : (t : ℕ) → bits t < 2) where
@@ -273,6 +278,13 @@ no-marked-command R none bits bad =
 -- where the parity's bit of rank r stands, the highest bit being the first
 abbrev pub parityPlace : Row → ℕ → ℕ
 parityPlace R r = place R (parity (R .code .width - 1 - r))
+
+-- a bit of the parity read is what is read there
+pub parity-bit : (R : Row) (bits : ℕ → ℕ) → ((t : ℕ) → bits t < 2) → (r : ℕ) → r < R .code .width
+    → readParity R bits / 2 ^ (R .code .width - 1 - r) % 2 ≡ bits (parityPlace R r)
+unfolding readParity digit
+parity-bit R bits d r h =
+    digit-number (λ j. bits (parityPlace R j)) (λ j. d (parityPlace R j)) 0 (R .code .width) r h ∙ ap (λ (x : ℕ). bits (parityPlace R x)) (zero-add r)
 
 module _ (R : Row) (s : Stands R) where
   pub parityPlace-lt : (r : ℕ) → r < R .code .width → parityPlace R r < 32

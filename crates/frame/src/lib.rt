@@ -1,4 +1,2 @@
-// Where each bit stands: scrambling, sync words, blocks and multiblocks. Clauses 7.1 to 7.3; document 01, "From octets to lane bits".
-pub mod multiblock;
-pub mod scrambler;
+// Where each bit stands: headers, sync words, blocks and multiblocks. Clauses 7.1 to 7.3; document 01, "From octets to lane bits".
 pub mod sync;

@@ -3,12 +3,12 @@
 use mathlib.Core.Path.{_≡_, refl, sym, ap, _∙_, subst}
 use mathlib.Core.List.{List, [], _∷_, _++_}
 use mathlib.Core.Bool.{true}
-use Prim.Native.Nat.{ℕ, zero, suc, _+_, _*_, _≤_}
+use Prim.Native.Nat.{ℕ, zero, suc, _+_, _*_, _≤_, _<_}
 use native.Mathlib.Numerals.{add-one}
 use native.Mathlib.Nat.{zero-add}
 use native.Mathlib.Omega.{arith}
 use Rattle.bits.specs.Order.{run}
-use Rattle.bits.proofs.Runs.{run-append}
+use Rattle.bits.proofs.Runs.{run-append, run-ext}
 use Rattle.lock.specs.Table.{fresh, lockStep}
 use Rattle.lock.specs.Accepted.{accepted, widthOf, stepped}
 use Rattle.lock.specs.Run.{after, ran}
@@ -21,6 +21,11 @@ pub after-append : (mode E : ℕ) (lock : Lock) (a b : List ℕ) → after mode 
 unfolding after
 after-append mode E lock [] b = refl
 after-append mode E lock (header ∷ a) b = after-append mode E (stepped mode E lock header .lock) a b
+
+-- a run goes by the headers that it takes
+pub ran-same : (mode E : ℕ) (f g : ℕ → ℕ) (n : ℕ) → ((x : ℕ) → x < n → f x ≡ g x) → ran mode E f n ≡ ran mode E g n
+unfolding ran
+ran-same mode E f g n e = ap (after mode E fresh) (run-ext f g 0 0 n (λ j h. e (0 + j) (omega arith)))
 
 module _ (mode E : ℕ) (headers : ℕ → ℕ) where
   -- a run goes on from the state where it stands

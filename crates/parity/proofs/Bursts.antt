@@ -14,11 +14,11 @@ use lib.Pow.{pow-pos, pow-mono, shr-shr}
 use lib.Bits.{bitXor, xor-shifted}
 use Rattle.bits.specs.Choice.{pick}
 use Rattle.bits.proofs.Xor.{odd-lt}
-use Rattle.parity.specs.Polynomial.{scale, timesX, timesPower}
+use Rattle.polynomial.specs.Polynomial.{scale, timesX, timesPower}
+use Rattle.polynomial.proofs.Polynomial.{half-lt, scale-zero, timesX-low, timesPower-xor, timesPower-zero, timesPower-scale, timesPower-add, timesPower-lt, timesPower-injective, power-low}
+use Rattle.polynomial.proofs.Fire.{trapped}
 use Rattle.parity.specs.Codeword.{Code, crc12, fec, weight, weighed, remainderOf}
 use Rattle.parity.specs.Bursts.{IsBurst, flips}
-use Rattle.parity.proofs.Polynomial.{half-lt, scale-zero, timesX-low, timesPower-xor, timesPower-zero, timesPower-scale, timesPower-add, timesPower-lt, timesPower-injective, power-low}
-use Rattle.parity.proofs.Fire.{trapped}
 
 -- ---- codes
 

@@ -10,11 +10,11 @@ use borrow.Author.Tests.{lt-ltb, le-ltb}
 use Rattle.bits.specs.Order.{run, number, bitsOf}
 use Rattle.bits.proofs.Xor.{odd-lt, xor-assoc, xor-swap}
 use Rattle.bits.proofs.Numbers.{number-first, number-lt, number-ext, number-whole}
-use Rattle.parity.specs.Polynomial.{scale, timesX, timesPower, power}
-use Rattle.parity.specs.Remainder.{next, remainderFrom, remainder}
+use Rattle.polynomial.specs.Polynomial.{scale, timesX, timesPower, power}
+use Rattle.polynomial.specs.Remainder.{next, remainderFrom, remainder}
+use Rattle.polynomial.proofs.Remainder.{remainder-lt}
+use Rattle.polynomial.proofs.Polynomial.{scale-xor, scale-lt, timesPower-xor, timesPower-zero, timesPower-scale, timesPower-in, timesPower-add, timesPower-lt, power-low, power-width}
 use Rattle.parity.specs.Codeword.{Code, parityOf, weight, codeword, weighed, remainderOf}
-use Rattle.parity.proofs.Remainder.{remainder-lt}
-use Rattle.parity.proofs.Polynomial.{scale-xor, scale-lt, timesPower-xor, timesPower-zero, timesPower-scale, timesPower-in, timesPower-add, timesPower-lt, power-low, power-width}
 
 module _ (C : Code) where
   -- the same positions set, the same sum
@@ -96,11 +96,11 @@ module _ (C : Code) where
         ∙ sym (number-first f p n)
 
     module _ (f : ℕ → ℕ) (parity : ℕ) (room : w ≤ C .positions) where
-      data-part : (p : ℕ) → p < C .positions - w → codeword C f parity p ≡ f p
+      pub data-part : (p : ℕ) → p < C .positions - w → codeword C f parity p ≡ f p
       unfolding codeword
       data-part p h = rw (lt-ltb p (C .positions - w) h)
 
-      parity-part : (p : ℕ) → C .positions - w ≤ p → codeword C f parity p ≡ parity / 2 ^ (C .positions - 1 - p) % 2
+      pub parity-part : (p : ℕ) → C .positions - w ≤ p → codeword C f parity p ≡ parity / 2 ^ (C .positions - 1 - p) % 2
       unfolding codeword
       parity-part p h = rw (le-ltb p (C .positions - w) h)
 

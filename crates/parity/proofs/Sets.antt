@@ -24,7 +24,7 @@ flips-after p q b c h l =
     ∙ flips-at p q (c - p)
     ∙ ap (λ (x : ℕ). x % 2) (div-eq-of-lt (lt-of-lt-of-le h (pow-mono (omega arith))))
 
-flips-bit : (p q c : ℕ) → flips p q c < 2
+pub flips-bit : (p q c : ℕ) → flips p q c < 2
 flips-bit p q c = go (decLe p c)
   where
     go : Dec (p ≤ c) → flips p q c < 2

@@ -15,10 +15,10 @@ use lib.Bits.{bitXor, bitAnd, and-mask, xor-lt, xor-comm, xor-shifted, xor-zero-
 use Rattle.bits.specs.Order.{run}
 use Rattle.bits.proofs.Runs.{getD-run}
 use Rattle.bits.proofs.Xor.{bit-cases, odd-lt, xor-assoc}
-use Rattle.parity.specs.Polynomial.{scale, timesX, timesPower}
+use Rattle.polynomial.specs.Polynomial.{scale, timesX, timesPower}
+use Rattle.polynomial.proofs.Polynomial.{half-lt, top-lt, scale-lt, timesX-lt, timesPower-xor, timesPower-zero, timesPower-scale, timesPower-in, timesPower-injective, power-low}
 use Rattle.parity.specs.Codeword.{fec, weight}
 use Rattle.parity.specs.Answer.{Explains}
-use Rattle.parity.proofs.Polynomial.{half-lt, top-lt, scale-lt, timesX-lt, timesPower-xor, timesPower-zero, timesPower-scale, timesPower-in, timesPower-injective, power-low}
 use Rattle.parity.proofs.Bursts.{fec-proper, starts, patternSum, mirror, early, late-high, late-lt, nine-bits}
 
 -- ---- times x, as the code has it

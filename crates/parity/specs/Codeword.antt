@@ -5,8 +5,8 @@ use lib.Dec.{ltb}
 use lib.Bits.{bitXor}
 use Rattle.bits.specs.Choice.{pick}
 use Rattle.bits.specs.Order.{bitsOf}
-use Rattle.parity.specs.Polynomial.{scale, power}
-use Rattle.parity.specs.Remainder.{remainder}
+use Rattle.polynomial.specs.Polynomial.{scale, power}
+use Rattle.polynomial.specs.Remainder.{remainder}
 
 pub record Code : Type 0 where
   pub width : ℕ  -- parity bits

@@ -3,7 +3,7 @@ ghost use mathlib.Core.Path.{_≡_};
 ghost use Prim.Native.Nat.{_-_, _*_, _^_, _<_, _≤_};
 ghost use lib.ListN.{length};
 ghost use Rattle.bits.specs.Order.{bitAt, run, digits};
-ghost use Rattle.parity.specs.Remainder.{next, remainderFrom};
+ghost use Rattle.polynomial.specs.Remainder.{next, remainderFrom};
 
 // One bit more.
 fn next_bit(w: u32, g: u32, r: u32, bit: u32) -> u32

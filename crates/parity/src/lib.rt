@@ -6,7 +6,6 @@ ghost use Rattle.parity.specs.Answer.{Answer};
 
 mod bitwise;
 mod search;
-mod weights;
 mod word;
 
 // A burst of at most 9 bits in an FEC codeword: its first position, and its bits from there on, lowest first.

@@ -3,7 +3,7 @@
 ghost use mathlib.Core.Path.{_≡_};
 ghost use Prim.Native.Nat.{ℕ, _-_, _^_, _<_, _≤_};
 ghost use Rattle.bits.specs.Order.{run};
-ghost use Rattle.parity.specs.Polynomial.{timesX, timesPower};
+ghost use Rattle.polynomial.specs.Polynomial.{timesX, timesPower};
 ghost use Rattle.parity.specs.Codeword.{fec, weight, remainderOf};
 ghost use Rattle.parity.specs.Bursts.{IsBurst, flips};
 ghost use Rattle.parity.specs.Answer.{Explains, Answer};

@@ -3,7 +3,7 @@ ghost use mathlib.Core.Path.{_≡_};
 ghost use Prim.Native.Nat.{_*_, _^_, _<_, _≤_};
 ghost use lib.ListN.{length};
 ghost use Rattle.bits.specs.Order.{bitAt, run, digits};
-ghost use Rattle.parity.specs.Remainder.{remainderFrom};
+ghost use Rattle.polynomial.specs.Remainder.{remainderFrom};
 
 fn wide(r: u32) -> u64
     ensures { λ s. ⌜ s ≡ r ⌝ }

@@ -9,7 +9,7 @@ use borrow.Author.Tests.{le-leb, le-ltb, eq-eqb}
 use lib.ListN.{length, getD}
 use Rattle.bits.specs.Order.{bitAt}
 use Rattle.frame.specs.Modes.{row}
-use Rattle.frame.proofs.Lane.{row-octets}
+use Rattle.frame.proofs.Sizes.{row-octets}
 use Rattle.receiver.specs.Release.{Release, fresh, run}
 use Rattle.receiver.specs.Refusal.{releases, refusalOf}
 use Rattle.receiver.specs.Entry.{listed, laidOut, entry}

@@ -1,16 +1,20 @@
 -- The four answers of the receiver's entry: refused, with one waiting, with nothing received, and begun afresh. Document 01, "What the receiver
 -- releases" and "Numbers of refusal". Assumes nothing.
-use mathlib.Core.Path.{_≡_, sym, ap, ap₂, _∙_, subst}
+use mathlib.Core.Path.{_≡_, refl, sym, ap, ap₂, _∙_, subst}
 use mathlib.Core.Bool.{Bool, true, false}
 use mathlib.Core.List.{List, []}
 use Prim.Native.Nat.{ℕ, _+_, _-_, _*_, _/_, _≤_}
 use native.Mathlib.Nat.{div-add-mod'}
 use native.Mathlib.Omega.{arith}
-use borrow.Author.Tests.{eq-eqb, ne-eqb}
+use borrow.Author.Tests.{eqb-true, eq-eqb, ne-eqb}
+use lib.Dec.{eqb}
 use lib.ListN.{length, take, drop, length-drop}
+use Rattle.bits.specs.Choice.{pick}
 use Rattle.bits.specs.Order.{bitAt, laid}
 use Rattle.frame.specs.Modes.{row}
-use Rattle.frame.proofs.Lane.{laneFrom, row-octets}
+use Rattle.frame.specs.Lane.{laneOctets}
+use Rattle.frame.proofs.Lane.{laneFrom}
+use Rattle.frame.proofs.Sizes.{row-octets}
 use Rattle.receiver.specs.declared.Receiver.{Receiver}
 use Rattle.receiver.specs.declared.Received.{Received}
 use Rattle.receiver.specs.Release.{Step, waitingAt, run}
@@ -83,3 +87,25 @@ module _ (mode : ℕ) (s : Receiver) (lane o st c p q : List ℕ) (refusal : ℕ
           ∙ ap (λ (x : Step). laidOut x o st c p q) (sym (begun mode lane s k w))
           ∙ ap (λ (j : ℕ). laidOut (run (row mode) (bitAt lane) s j) o st c p q) {x = 1 + k} {y = length lane / 264} (omega arith)
           ∙ sym is-run
+
+-- ---- an accepted call, by its answer
+
+module _ (mode : ℕ) (s : Receiver) (lane o st c p q : List ℕ) where
+  abbrev refusal : ℕ
+  refusal = refusalOf mode s (length lane) (length o) (length st) (length c) (length p) (length q)
+
+  answered : entry mode s lane o st c p q .answer .refusal ≡ refusal
+  unfolding entry
+  answered = by (eqb refusal 0) refl
+    where
+      by : (b : Bool) → eqb refusal 0 ≡ b
+          → pick b (laidOut (run (row mode) (bitAt lane) s (length lane / laneOctets (row mode .gap))) o st c p q) (done (record { refusal = refusal; count = 0; state = s }) o st c p q) .answer .refusal ≡ refusal
+      by true e = sym (eqb-true refusal 0 e)
+      by false e = refl
+
+  module _ (z : entry mode s lane o st c p q .answer .refusal ≡ 0) where
+    pub all-run : entry mode s lane o st c p q ≡ laidOut (run (row mode) (bitAt lane) s (length lane / 264)) o st c p q
+    all-run = is-run mode s lane o st c p q refusal refl (sym answered ∙ z)
+
+    pub all-whole : length lane ≡ 264 * (length lane / 264)
+    all-whole = omega (arith, whole mode s lane o st c p q refusal refl (sym answered ∙ z))

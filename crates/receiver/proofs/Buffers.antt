@@ -10,8 +10,8 @@ use lib.ListN.{length, getD, take, drop, set, length-append, length-drop}
 use lib.Seq.{drop-drop, drop-cons, set-at, take-at, drop-at, take-all, drop-length}
 use borrow.Rule.Slice.PartMut.{putMid, midOf, postOf, post-is}
 use Rattle.bits.specs.Order.{laid}
+use Rattle.scrambler.proofs.Scrambling.{length-descrambled}
 use Rattle.frame.specs.Modes.{Row}
-use Rattle.frame.proofs.Scrambling.{length-descrambled}
 use Rattle.receiver.specs.declared.Receiver.{Receiver}
 use Rattle.receiver.specs.Release.{Release, Step, mendedAt, releaseAt, run}
 use Rattle.receiver.specs.Entry.{octetsOut, listed}

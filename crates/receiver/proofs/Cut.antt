@@ -10,11 +10,12 @@ use lib.ListN.{drop}
 use Rattle.bits.specs.Choice.{pick}
 use Rattle.bits.specs.Order.{bitAt, number}
 use Rattle.bits.proofs.Octets.{bit-drop}
+use Rattle.scrambler.specs.Scrambling.{descrambled}
 use Rattle.frame.specs.Modes.{Row, row}
 use Rattle.frame.specs.Lane.{laneOctets, dataBit, syncBit, spoiltBit}
 use Rattle.frame.specs.SyncWord.{readParity, markedCommand}
-use Rattle.frame.specs.Scrambling.{descrambled}
-use Rattle.frame.proofs.Lane.{laneFrom, octets-moved, sync-moved, spoilt-moved, same-octets, row-octets}
+use Rattle.frame.proofs.Lane.{laneFrom, octets-moved, sync-moved, spoilt-moved, same-octets}
+use Rattle.frame.proofs.Sizes.{row-octets}
 use Rattle.receiver.specs.declared.Receiver.{Receiver}
 use Rattle.receiver.specs.declared.run.Heard.{Heard}
 use Rattle.receiver.specs.Judge.{judged, mended, marked, trustedAfter}

@@ -9,13 +9,14 @@ use lib.Dec.{eqb}
 use lib.ListN.{length}
 use Rattle.bits.specs.Choice.{pick}
 use Rattle.bits.specs.Order.{bitAt, number, digit}
+use Rattle.bits.specs.Parts.{refusalOf, written}
 use Rattle.bits.proofs.Laid.{laid-all}
+use Rattle.bits.proofs.Parts.{not-refused, answered}
 use Rattle.frame.specs.Modes.{row}
 use Rattle.frame.specs.Lane.{dataOctets, syncBit, spoiltBit}
-use Rattle.frame.specs.Parts.{refusalOf, written}
 use Rattle.frame.specs.SyncWord.{readParity, markedCommand}
-use Rattle.frame.proofs.Lane.{syncBit-lt, spoiltBit-lt, length-data, row-gap}
-use Rattle.frame.proofs.Parts.{not-refused, answered}
+use Rattle.frame.proofs.Lane.{syncBit-lt, spoiltBit-lt, length-data}
+use Rattle.frame.proofs.Sizes.{row-gap}
 use Rattle.frame.proofs.SyncWord.{row-stands, number-parity, number-marked}
 use Rattle.receiver.specs.Turn.{heardAt}
 

@@ -10,3 +10,5 @@ pub mod Hearing
 pub mod Turns
 pub mod Answers
 pub mod Afresh
+pub mod Numbered
+pub mod Judging

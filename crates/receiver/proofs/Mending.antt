@@ -116,7 +116,7 @@ flips-past p w q n = by (decLt q p)
 flips-here : (p w : ℕ) → flips p w p ≡ w % 2
 flips-here p w = ap (flips p w) {x = p} {y = p + 0} (omega arith) ∙ flips-at p w 0 ∙ ap (λ (x : ℕ). x % 2) (omega arith)
 
-flips-none : (p q : ℕ) → flips p 0 q ≡ 0
+pub flips-none : (p q : ℕ) → flips p 0 q ≡ 0
 flips-none p q = by (decLt q p)
   where
     by : Dec (q < p) → flips p 0 q ≡ 0

@@ -7,7 +7,7 @@ use borrow.Author.Tests.{lt-ltb, le-ltb, eq-eqb, leb-true, eqb-true}
 use lib.Dec.{ltb, leb, eqb}
 use Rattle.bits.specs.Choice.{pick}
 use Rattle.frame.specs.Modes.{Row, row}
-use Rattle.frame.proofs.Lane.{row-octets, row-most}
+use Rattle.frame.proofs.Sizes.{row-octets, row-most}
 use Rattle.receiver.specs.declared.Receiver.{Receiver}
 use Rattle.receiver.specs.Refusal.{commandBound, allZero, stateFits, releases, refusalOf}
 use Rattle.receiver.specs.Turn.{asFresh, roomFor, Room}

@@ -9,10 +9,10 @@ use lib.ListN.{length, take, drop, set, length-set, length-drop}
 use lib.Seq.{take-all}
 use borrow.Rule.Slice.PartMut.{putMid, midOf, same-len-mid}
 use Rattle.bits.specs.Order.{bitAt, number, laid}
+use Rattle.bits.specs.Parts.{refusalOf, written}
+use Rattle.bits.proofs.Parts.{not-refused, answered}
+use Rattle.scrambler.specs.Scrambling.{descrambled}
 use Rattle.frame.specs.Modes.{Row, row}
-use Rattle.frame.specs.Parts.{refusalOf, written}
-use Rattle.frame.specs.Scrambling.{descrambled}
-use Rattle.frame.proofs.Parts.{not-refused, answered}
 use Rattle.receiver.specs.declared.Verdict.{Verdict}
 use Rattle.receiver.specs.declared.Receiver.{Receiver}
 use Rattle.receiver.specs.declared.run.Heard.{Heard}

@@ -6,10 +6,10 @@ use Prim.Native.Nat.{ℕ, zero, suc}
 use lib.ListN.{replicate}
 use Rattle.bits.specs.Choice.{pick}
 use Rattle.bits.specs.Order.{bitAt, number}
+use Rattle.scrambler.specs.Scrambling.{descrambled}
 use Rattle.frame.specs.Modes.{Row}
 use Rattle.frame.specs.Lane.{dataOctets, syncBit, spoiltBit}
 use Rattle.frame.specs.SyncWord.{readParity, markedCommand}
-use Rattle.frame.specs.Scrambling.{descrambled}
 use Rattle.receiver.specs.declared.Verdict.{Verdict}
 use Rattle.receiver.specs.declared.Receiver.{Receiver}
 use Rattle.receiver.specs.Judge.{judged, mended, marked, trustedAfter}

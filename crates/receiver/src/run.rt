@@ -11,8 +11,6 @@ ghost use Rattle.receiver.specs.Turn.{heardAt, Turned, Room};
 use crate::Received;
 use crate::Receiver;
 use crate::judge;
-use frame::multiblock;
-use frame::scrambler;
 use frame::sync;
 
 // What a multiblock tells: its data octets as they came, the parity of the one before it, and its command.

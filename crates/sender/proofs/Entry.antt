@@ -9,6 +9,7 @@ use native.Mathlib.Omega.{arith}
 use borrow.Author.Tests.{eqb-true, eqb-false, eq-eqb, ne-eqb}
 use lib.Dec.{eqb}
 use lib.ListN.{length}
+use Rattle.bits.specs.Choice.{pick}
 use Rattle.bits.specs.Order.{laid}
 use Rattle.frame.specs.Modes.{row}
 use Rattle.sender.specs.declared.Sender.{Sender}
@@ -16,7 +17,7 @@ use Rattle.sender.specs.Lane.{lane, after}
 use Rattle.sender.specs.Refusal.{stateFits, refusalOf}
 use Rattle.sender.specs.Entry.{done, entry}
 use Rattle.sender.proofs.States.{Fits, in-range, fitting, accepted-again}
-use Rattle.sender.proofs.Given.{Applies, too-many-blocks, wide-history, wide-parity, high-number, part-octets, too-many, other-count, short-lane, only-when, accepted-only}
+use Rattle.sender.proofs.Given.{Applies, no-blocks, too-many-blocks, wide-history, wide-parity, high-number, part-octets, too-many, other-count, short-lane, only-when, accepted-only}
 
 same : (a b : ℕ) → ((a ≡ b → ⊥) → ⊥) → a ≡ b
 same a b f = go (eqb a b) refl
@@ -57,6 +58,19 @@ module _ (mode E : ℕ) (s : Sender) (user commands old : List ℕ) where
     unfolding entry
     is-sent z next all en ea = rw (← e, eq-eqb refusal 0 z, en, ea)
 
+  -- the answer's refusal is the lowest number that applies
+  pub answered : entry mode E s user commands old .answer .refusal ≡ refusalOf mode E s user commands old
+  unfolding entry
+  answered = by (eqb (refusalOf mode E s user commands old) 0) refl
+    where
+      by : (b : Bool) → eqb (refusalOf mode E s user commands old) 0 ≡ b
+          → pick b
+          (done (record { refusal = 0; count = length commands; state = after (row mode) E s user commands }) (laid (lane (row mode) E s user commands) old))
+          (done (record { refusal = refusalOf mode E s user commands old; count = 0; state = s }) old) .answer .refusal
+          ≡ refusalOf mode E s user commands old
+      by true e = sym (eqb-true (refusalOf mode E s user commands old) 0 e)
+      by false e = refl
+
   -- ---- the state that comes back
 
   module _ (e : refusalOf mode E s user commands old ≡ 0) where
@@ -64,7 +78,29 @@ module _ (mode E : ℕ) (s : Sender) (user commands old : List ℕ) where
     unfolding entry
     returned = rw e
 
-    fits : Fits (row mode) E s
+    pub counted : entry mode E s user commands old .answer .count ≡ length commands
+    unfolding entry
+    counted = rw e
+
+    pub written : entry mode E s user commands old .lane ≡ laid (lane (row mode) E s user commands) old
+    unfolding entry
+    written = rw e
+
+    pub whole : length user ≡ 256 * length commands
+    whole =
+        let none = accepted-only mode E s user commands old e in
+        let multiple = same (length user % 256) 0 (λ f. none 4 (part-octets f)) in
+        let each = same (length commands) (length user / 256) (λ f. none 6 (other-count f)) in
+        omega (arith, div-add-mod' (length user) 256)
+
+    pub blocks : (1 ≤ E) × (E ≤ 256)
+    blocks =
+        let none = accepted-only mode E s user commands old e in
+        let low : E < 1 → ⊥ = λ h. none 2 (no-blocks h) in
+        let high : 256 < E → ⊥ = λ h. none 2 (too-many-blocks h) in
+        (omega arith, omega arith)
+
+    pub fits : Fits (row mode) E s
     fits =
         let none = accepted-only mode E s user commands old e in
         let history : 2 ^ 58 ≤ s .history → ⊥ = λ h. none 3 (wide-history h) in

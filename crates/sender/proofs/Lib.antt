@@ -4,3 +4,5 @@ pub mod States
 pub mod Given
 pub mod Turns
 pub mod Entry
+pub mod Multiblocks
+pub mod Refusals

@@ -8,10 +8,10 @@ use native.Mathlib.Omega.{arith}
 use lib.ListN.{length, take, drop, length-append, length-drop}
 use lib.Seq.{drop-drop, drop-at, take-append-le, drop-append-le}
 use Rattle.bits.specs.Choice.{bitOf}
+use Rattle.scrambler.specs.Scrambling.{scrambled}
 use Rattle.frame.specs.Modes.{Row}
 use Rattle.frame.specs.Lane.{laneOctets}
 use Rattle.frame.specs.SyncWord.{syncWord}
-use Rattle.frame.specs.Scrambling.{scrambled}
 use Rattle.frame.proofs.Sizes.{length-multiblock}
 use Rattle.sender.specs.declared.Sender.{Sender}
 use Rattle.sender.specs.Lane.{last, sentOne, afterOne, lane, after}

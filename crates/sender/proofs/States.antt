@@ -11,11 +11,11 @@ use lib.ListN.{take, drop}
 use lib.Pow.{pow-pos}
 use Rattle.bits.specs.Choice.{pick}
 use Rattle.bits.specs.Order.{bitAt}
+use Rattle.scrambler.specs.Scrambling.{scrambled}
+use Rattle.scrambler.proofs.Scrambling.{history-lt}
 use Rattle.parity.proofs.Bursts.{Proper}
 use Rattle.parity.proofs.Codeword.{parity-lt}
 use Rattle.frame.specs.Modes.{Row, row}
-use Rattle.frame.specs.Scrambling.{scrambled}
-use Rattle.frame.proofs.Scrambling.{history-lt}
 use Rattle.frame.proofs.Sizes.{row-proper}
 use Rattle.sender.specs.declared.Sender.{Sender}
 use Rattle.sender.specs.Lane.{fresh, afterOne, after}

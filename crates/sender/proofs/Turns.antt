@@ -12,16 +12,17 @@ use lib.Seq.{take-suc, take-length, length-take-le}
 use borrow.Rule.Slice.PartMut.{putMid, midOf, same-len-mid}
 use Rattle.bits.specs.Choice.{pick, bitOf}
 use Rattle.bits.specs.Order.{bitAt, laid}
+use Rattle.bits.specs.Parts.{written}
+use Rattle.bits.specs.Parts as Parts
 use Rattle.bits.proofs.Laid.{laid-nothing, laid-all, laid-part}
+use Rattle.bits.proofs.Parts.{not-refused, answered}
+use Rattle.scrambler.specs.Scrambling.{scrambled, historyAfter}
+use Rattle.scrambler.proofs.Scrambling.{length-scrambled}
 use Rattle.parity.specs.Codeword.{parityOf}
 use Rattle.frame.specs.Modes.{Row, row}
 use Rattle.frame.specs.Lane.{multiblock}
 use Rattle.frame.specs.SyncWord.{syncWord}
-use Rattle.frame.specs.Scrambling.{scrambled, historyAfter}
-use Rattle.frame.specs.Parts.{written}
-use Rattle.frame.specs.Parts as Parts
-use Rattle.frame.proofs.Parts.{not-refused, answered}
-use Rattle.frame.proofs.Sizes.{row-gap, row-octets, length-scrambled}
+use Rattle.frame.proofs.Sizes.{row-gap, row-octets}
 use Rattle.sender.specs.declared.Sender.{Sender}
 use Rattle.sender.specs.Lane.{last, sentOne, afterOne, lane, after}
 use Rattle.sender.proofs.Runs.{after-one, lane-one, one-length, lane-length}

@@ -7,11 +7,11 @@ use lib.Dec.{eqb}
 use lib.ListN.{take, drop}
 use Rattle.bits.specs.Choice.{pick, bitOf}
 use Rattle.bits.specs.Order.{bitAt}
+use Rattle.scrambler.specs.Scrambling.{scrambled, historyAfter}
 use Rattle.parity.specs.Codeword.{parityOf}
 use Rattle.frame.specs.Modes.{Row}
 use Rattle.frame.specs.Lane.{multiblock}
 use Rattle.frame.specs.SyncWord.{syncWord}
-use Rattle.frame.specs.Scrambling.{scrambled, historyAfter}
 use Rattle.sender.specs.declared.Sender.{Sender}
 
 -- history, parity and multiblock number 0

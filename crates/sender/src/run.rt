@@ -33,12 +33,12 @@ fn send_one(mode: u8, e: u32, state: Sender, user: &[u8], command: u32, lane: &m
     ensures { λ _. ⌜ now (lane .exit) ≡ laid (sentOne (row mode) e state (now (user .entry)) command) (now (lane .entry)) ⌝ }
 {
     let mut octets = [0u8; 256];
-    let turned = frame::scrambler::scramble_multiblock(user, state.history, &mut octets[..]);
+    let turned = scrambler::scramble_multiblock(user, state.history, &mut octets[..]);
     let parity = parity_of(mode, &octets[..]);
     let next = state.number + 1;
     let last = next == e;
     let sync = frame::sync::word(mode, state.parity, command, last);
-    frame::multiblock::write(sync, &octets[..], lane);
+    multiblock::write(sync, &octets[..], lane);
     Sender {
         history: turned.history,
         parity,

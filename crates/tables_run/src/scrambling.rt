@@ -1,6 +1,5 @@
 // Table 37, clause 7.2.4.2: four blocks scrambled one after the other.
 use crate::text;
-use frame::scrambler;
 ghost use Prim.Native.Nat.{_≤_};
 
 // Initial state 0x01: of the 58 bits sent before, only the earliest is 1.

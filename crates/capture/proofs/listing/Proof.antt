@@ -116,7 +116,8 @@ write-requires c κs =
     let z = c .before .before .before .before .before .before .before .before .before .before .before .before .before .before .before .before .before .before .if1 .left in
     let ok = accepted-read capture o e z in
     let l = lists capture ok (o .mode) (mode-read capture o e z) _ (lane-read capture o e z) _ _ _ _ _ _ _ _ _ _ _ _ (c .before .before .before .before .before .before .before .before .before .before .before .before .before .before .before .before .before .fresh .ensures) (length-replicate {A = ℕ} 61440 0) (length-replicate {A = ℕ} 240 0) (length-replicate {A = ℕ} 240 0) (length-replicate {A = ℕ} 240 0) (length-replicate {A = ℕ} 240 0) (c .before .before .before .before .before .before .before .before .before .before .receive .ensures) in
-    listed-all capture _ _ _ _ _ _ _ ok (length-replicate {A = ℕ} 240 0) (length-replicate {A = ℕ} 240 0) (length-replicate {A = ℕ} 240 0) l
+    let all = listed-all capture _ _ _ _ _ _ _ ok (length-replicate {A = ℕ} 240 0) (length-replicate {A = ℕ} 240 0) (length-replicate {A = ℕ} 240 0) l in
+    search (needs, all)
 
 -- src/lib.rt:50:1
 same-length : tie.Need-same-length

@@ -4,7 +4,7 @@ use borrow.Author.Needs.{needs}
 use Prim.Native.Nat.{_-_}
 use mathlib.Core.Path.{ap, _∙_}
 use Rattle.bits.proofs.Runs.{from-start}
-use Rattle.parity.specs.Remainder.{remainder}
+use Rattle.polynomial.specs.Remainder.{remainder}
 use Rattle.parity.specs.Codeword.{parityOf}
 use Rattle.parity.proofs.Crc12.of.Statement.{statement}
 use Rattle.parity.proofs.Crc12.of.Tie as tie

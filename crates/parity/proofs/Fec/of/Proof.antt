@@ -5,7 +5,8 @@ use Prim.Native.Nat.{_*_, _/_}
 use native.Mathlib.Omega.{arith}
 use lib.ListN.{length}
 use Rattle.bits.specs.Order.{bitAt, run}
-use Rattle.parity.proofs.Words.{fecFrom-lt, words-rest}
+use Rattle.polynomial.proofs.Words.{fecFrom-lt, words-rest}
+use Rattle.parity.specs.Codeword.{parityOf}
 use Rattle.parity.proofs.Fec.of.Statement.{statement}
 use Rattle.parity.proofs.Fec.of.Tie as tie
 
@@ -21,6 +22,7 @@ rest-requires c κs =
     (search needs, search needs, rw (c .words .ensures) (fecFrom-lt (run (bitAt octets) 0 (64 * (length octets / 8)))), omega arith)
 
 returns : tie.Need-returns
+unfolding parityOf
 returns c =
     let octets = c .before .before .before .args .octets .now in
     rw (c .rest .ensures) (words-rest octets (length octets / 8) (c .before .words .result) (omega arith) (c .before .words .ensures))

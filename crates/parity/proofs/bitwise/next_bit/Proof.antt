@@ -3,7 +3,7 @@
 use borrow.Author.Needs.{needs}
 use Prim.Native.Nat.{_-_, _*_, _/_, _%_, _^_}
 use lib.Bits.{bitXor}
-use Rattle.parity.proofs.Register.{multiple-fits, mask-some, step-code}
+use Rattle.polynomial.proofs.Register.{multiple-fits, mask-some, step-code}
 use Rattle.parity.proofs.bitwise.next_bit.Statement.{statement}
 use Rattle.parity.proofs.bitwise.next_bit.Tie as tie
 

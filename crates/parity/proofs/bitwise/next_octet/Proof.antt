@@ -4,9 +4,9 @@ use borrow.Author.Needs.{needs}
 use Prim.Native.Nat.{ℕ, _-_, _^_, _≤_, _<_}
 use mathlib.Core.Path.{_≡_, refl, sym, ap, _∙_}
 use Rattle.bits.specs.Order.{digits}
-use Rattle.parity.specs.Remainder.{remainderFrom}
-use Rattle.parity.proofs.Remainder.{next-lt}
-use Rattle.parity.proofs.Register.{next-digit, no-digits}
+use Rattle.polynomial.specs.Remainder.{remainderFrom}
+use Rattle.polynomial.proofs.Remainder.{next-lt}
+use Rattle.polynomial.proofs.Register.{next-digit, no-digits}
 use Rattle.parity.proofs.bitwise.next_octet.Statement.{statement}
 use Rattle.parity.proofs.bitwise.next_octet.Tie as tie
 

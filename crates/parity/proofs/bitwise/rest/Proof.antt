@@ -6,9 +6,9 @@ use mathlib.Core.Path.{_≡_, refl, sym, ap, _∙_}
 use native.Mathlib.Omega.{arith}
 use lib.ListN.{length}
 use Rattle.bits.proofs.Runs.{bitsFrom}
-use Rattle.parity.specs.Remainder.{remainderFrom}
-use Rattle.parity.proofs.Remainder.{from-lt}
-use Rattle.parity.proofs.Register.{next-octets, no-octets}
+use Rattle.polynomial.specs.Remainder.{remainderFrom}
+use Rattle.polynomial.proofs.Remainder.{from-lt}
+use Rattle.polynomial.proofs.Register.{next-octets, no-octets}
 use Rattle.parity.proofs.bitwise.rest.Statement.{statement}
 use Rattle.parity.proofs.bitwise.rest.Tie as tie
 

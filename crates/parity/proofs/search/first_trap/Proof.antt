@@ -5,8 +5,8 @@ use Prim.Native.Nat.{ℕ, _-_, _/_, _%_, _^_, _≤_, _<_}
 use mathlib.Core.Path.{_≡_, ap, _∙_}
 use native.Mathlib.Omega.{arith}
 use native.Mathlib.Nat.{mod-eq-of-lt}
-use Rattle.parity.specs.Polynomial.{scale}
-use Rattle.parity.proofs.Polynomial.{scale-lt}
+use Rattle.polynomial.specs.Polynomial.{scale}
+use Rattle.polynomial.proofs.Polynomial.{scale-lt}
 use Rattle.parity.proofs.Trap.{Gathered, gather-none, gather-bit, gather-more}
 use Rattle.parity.proofs.search.first_trap.Statement.{statement}
 use Rattle.parity.proofs.search.first_trap.Tie as tie

@@ -5,10 +5,10 @@ use Prim.Native.Nat.{ℕ, _+_, _-_, _%_, _^_, _≤_, _<_}
 use mathlib.Core.Path.{_≡_, refl, sym, _∙_, subst}
 use native.Mathlib.Omega.{arith}
 use borrow.Author.Count.{below-more}
+use Rattle.polynomial.specs.Polynomial.{timesPower}
+use Rattle.polynomial.proofs.Polynomial.{timesX-lt}
 use Rattle.parity.specs.declared.Burst.the-variants.{Nothing}
-use Rattle.parity.specs.Polynomial.{timesPower}
 use Rattle.parity.specs.Answer.{Explains, Answer}
-use Rattle.parity.proofs.Polynomial.{timesX-lt}
 use Rattle.parity.proofs.Bursts.{fec-proper, starts}
 use Rattle.parity.proofs.Trap.{trap-next}
 use Rattle.parity.proofs.search.search.Statement.{statement}

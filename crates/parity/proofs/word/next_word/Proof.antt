@@ -2,7 +2,7 @@
 -- Assumes nothing.
 use borrow.Author.Needs.{needs}
 use native.Mathlib.Omega.{arith}
-use Rattle.parity.proofs.Words.{product, quotient, rounds, ups, downs, shifts, left-over}
+use Rattle.polynomial.proofs.Words.{product, quotient, rounds, ups, downs, shifts, left-over}
 use Rattle.parity.proofs.word.next_word.Statement.{statement}
 use Rattle.parity.proofs.word.next_word.Tie as tie
 

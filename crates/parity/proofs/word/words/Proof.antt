@@ -6,8 +6,8 @@ use mathlib.Core.Path.{_≡_, refl, ap, _∙_}
 use native.Mathlib.Omega.{arith}
 use Rattle.bits.specs.Order.{bitAt, run}
 use Rattle.bits.proofs.Numbers.{bitAt-lt}
-use Rattle.parity.specs.Remainder.{remainderFrom}
-use Rattle.parity.proofs.Words.{fecFrom-lt, word-more}
+use Rattle.polynomial.specs.Remainder.{remainderFrom}
+use Rattle.polynomial.proofs.Words.{fecFrom-lt, word-more}
 use Rattle.parity.proofs.word.words.Statement.{statement}
 use Rattle.parity.proofs.word.words.Tie as tie
 

@@ -1,0 +1,147 @@
+-- Calls of the receiver, one after another, release together what one run over all their lane octets releases: document 01, "What the receiver
+-- releases". Assumes nothing.
+use mathlib.Core.Path.{_≡_, refl, sym, ap, ap₂, _∙_}
+use mathlib.Core.List.{List, [], _∷_, _++_}
+use Prim.Native.Nat.{ℕ, suc, _+_, _-_, _*_, _/_, _<_, _≤_}
+use native.Mathlib.Omega.{arith}
+use lib.ListN.{length, take, drop, length-append}
+use lib.Seq.{drop-at}
+use Rattle.bits.specs.Order.{bitAt, laid}
+use Rattle.bits.proofs.Octets.{bit-append}
+use Rattle.bits.proofs.Laid.{taken-back}
+use Rattle.frame.specs.Modes.{Row, row, parity, command}
+use Rattle.frame.specs.Lane.{laneOctets, headerPlace, dataPlace, dataBit, headerAt, syncBit, spoiltBit}
+use Rattle.frame.specs.SyncWord.{readParity, markedCommand}
+use Rattle.frame.proofs.SyncWord.{Stands, place, row-stands, only-parity, only-marked}
+use Rattle.frame.proofs.Lane.{laneFrom, same-sync, same-spoilt}
+use Rattle.frame.proofs.Sizes.{row-octets}
+use Rattle.frame.proofs.Places.{data-is, header-same}
+use Rattle.receiver.specs.declared.Receiver.{Receiver}
+use Rattle.receiver.specs.Release.{Release, Step, run}
+use Rattle.receiver.specs.Entry.{Done, octetsOut, listed, laidOut}
+use Rattle.receiver.proofs.Cut.{then, same-reading, run-cut, bits-from}
+use Rattle.receiver.proofs.Answers.{all-run, all-whole}
+use Rattle.receiver.proofs.Buffers.{listed-length}
+use Rattle.receiver.proofs.Numbered.{octets-append, listed-append, all-full}
+use Rattle.demands.specs.Calls.{Receiving, receiving, laneHeard, AllHeard, octetsReleased, statusesReleased}
+use Rattle.demands.proofs.Places.{data-inside, header-inside}
+
+abbrev status : Release → ℕ
+status r = r .status
+
+module _ (mode : ℕ) where
+  abbrev R : Row
+  R = row mode
+
+  -- ---- lane octets behind others change nothing of the multiblocks before
+
+  module _ (a b : List ℕ) (k : ℕ) (long : length a ≡ 264 * k) where
+    same : (x m : ℕ) → m < k → x < 8 * laneOctets (R .gap) * suc m → bitAt (a ++ b) x ≡ bitAt a x
+    same x m h l = bit-append a b x (omega (arith, ap (λ (y : ℕ). 8 * y * suc m) (row-octets mode)))
+
+    same-header : (m t : ℕ) → m < k → t < 32 → headerAt (R .gap) (bitAt (a ++ b)) m t ≡ headerAt (R .gap) (bitAt a) m t
+    same-header m t h l =
+        let inside = header-inside (R .gap) m t l in
+        header-same (R .gap) (bitAt (a ++ b)) (bitAt a) m t (same (headerPlace (R .gap) m t) m h (omega arith)) (same (headerPlace (R .gap) m t + 1) m h inside)
+
+    prefix : (s : Receiver) → run R (bitAt (a ++ b)) s k ≡ run R (bitAt a) s k
+    prefix s = same-reading R (bitAt (a ++ b)) (bitAt a) s k same-data same-parity same-command
+      where
+        stands : Stands R
+        stands = row-stands mode
+
+        same-data : (m q : ℕ) → m < k → q < 2048 → dataBit (R .gap) (bitAt (a ++ b)) m q ≡ dataBit (R .gap) (bitAt a) m q
+        same-data m q h l =
+            data-is (R .gap) (bitAt (a ++ b)) m q ∙ same (dataPlace (R .gap) m q) m h (data-inside (R .gap) m q l) ∙ sym (data-is (R .gap) (bitAt a) m q)
+
+        sync : (m t : ℕ) → m < k → t < 32 → syncBit (R .gap) (bitAt (a ++ b)) m t ≡ syncBit (R .gap) (bitAt a) m t
+        sync m t h l = same-sync (R .gap) (bitAt (a ++ b)) (bitAt a) m t (same-header m t h l)
+
+        same-parity : (m : ℕ) → m < k → readParity R (syncBit (R .gap) (bitAt (a ++ b)) m) ≡ readParity R (syncBit (R .gap) (bitAt a) m)
+        same-parity m h = only-parity R _ _ (λ j l. sync m (place R (parity j)) h (stands .parities j l))
+
+        same-command : (m : ℕ) → m < k
+            → markedCommand R (syncBit (R .gap) (bitAt (a ++ b)) m) (spoiltBit (R .gap) (bitAt (a ++ b)) m) ≡ markedCommand R (syncBit (R .gap) (bitAt a) m) (spoiltBit (R .gap) (bitAt a) m)
+        same-command m h =
+            only-marked R (syncBit (R .gap) (bitAt (a ++ b)) m) (syncBit (R .gap) (bitAt a) m) (spoiltBit (R .gap) (bitAt (a ++ b)) m) (spoiltBit (R .gap) (bitAt a) m)
+            (λ j l. sync m (place R (command j)) h (stands .commands j l))
+            (λ j l. same-spoilt (R .gap) (bitAt (a ++ b)) (bitAt a) m (place R (command j)) (same-header m (place R (command j)) h (stands .commands j l)))
+
+    -- a run over both
+    both : (s : Receiver) (n : ℕ) → run R (bitAt (a ++ b)) s (k + n) ≡ then (run R (bitAt a) s k) (run R (bitAt b) (run R (bitAt a) s k .state) n)
+    both s n =
+        run-cut R (bitAt (a ++ b)) s k n
+        ∙ ap₂ (λ (f : ℕ → ℕ) (x : Step). then x (run R f (x .state) n))
+        (sym (bits-from mode (a ++ b) k) ∙ ap bitAt (drop-at a b (264 * k) long)) (prefix s)
+
+  -- ---- all calls
+
+  pub record AllRun (s : Receiver) (calls : List Receiving) : Type 0 where
+    pub whole : length (laneHeard calls) ≡ 264 * (length (laneHeard calls) / 264)
+    pub octets : octetsReleased mode s calls ≡ octetsOut (run R (bitAt (laneHeard calls)) s (length (laneHeard calls) / 264) .out)
+    pub statuses : statusesReleased mode s calls ≡ listed status (run R (bitAt (laneHeard calls)) s (length (laneHeard calls) / 264) .out)
+
+  module _ (s : Receiver) (c : Receiving) (z : receiving mode s c .answer .refusal ≡ 0) where
+    k : ℕ
+    k = length (c .lane) / 264
+
+    abbrev ran : Step
+    ran = run R (bitAt (c .lane)) s k
+
+    is : receiving mode s c ≡ laidOut ran (c .octets) (c .statuses) (c .commands) (c .places) (c .patterns)
+    unfolding k
+    is = all-run mode s (c .lane) (c .octets) (c .statuses) (c .commands) (c .places) (c .patterns) z
+
+    long : length (c .lane) ≡ 264 * k
+    unfolding k
+    long = all-whole mode s (c .lane) (c .octets) (c .statuses) (c .commands) (c .places) (c .patterns) z
+
+    octets-taken : take (256 * receiving mode s c .answer .count) (receiving mode s c .octets) ≡ octetsOut (ran .out)
+    octets-taken =
+        ap (λ (d : Done). take (256 * d .answer .count) (d .octets)) is
+        ∙ ap (λ (n : ℕ). take n (laid (octetsOut (ran .out)) (c .octets))) (sym (all-full R (bitAt (c .lane)) s k))
+        ∙ taken-back (octetsOut (ran .out)) (c .octets)
+
+    statuses-taken : take (receiving mode s c .answer .count) (receiving mode s c .statuses) ≡ listed status (ran .out)
+    statuses-taken =
+        ap (λ (d : Done). take (d .answer .count) (d .statuses)) is
+        ∙ ap (λ (n : ℕ). take n (laid (listed status (ran .out)) (c .statuses))) (sym (listed-length status (ran .out)))
+        ∙ taken-back (listed status (ran .out)) (c .statuses)
+
+    module _ (calls : List Receiving) (rest : AllRun (receiving mode s c .answer .state) calls) where
+      n : ℕ
+      n = length (laneHeard calls) / 264
+
+      more : Step
+      more = run R (bitAt (laneHeard calls)) (ran .state) n
+
+      count : length (c .lane ++ laneHeard calls) / 264 ≡ k + n
+      unfolding n
+      count = ap (λ (x : ℕ). x / 264) {x = length (c .lane ++ laneHeard calls)} {y = 264 * (k + n)} (omega (arith, length-append (c .lane) (laneHeard calls), long, rest .whole)) ∙ omega arith
+
+      out-is : run R (bitAt (c .lane ++ laneHeard calls)) s (length (c .lane ++ laneHeard calls) / 264) .out ≡ ran .out ++ more .out
+      unfolding more
+      out-is = ap (λ (x : ℕ). run R (bitAt (c .lane ++ laneHeard calls)) s x .out) count ∙ ap (λ (x : Step). x .out) (both (c .lane) (laneHeard calls) k long s n)
+
+      state-is : run R (bitAt (laneHeard calls)) (receiving mode s c .answer .state) n ≡ more
+      unfolding more
+      state-is = ap (λ (d : Done). run R (bitAt (laneHeard calls)) (d .answer .state) n) is
+
+      with-call : AllRun s (c ∷ calls)
+      unfolding n
+      with-call = record {
+        whole = omega (arith, length-append (c .lane) (laneHeard calls), long, rest .whole, count);
+        octets =
+            ap₂ _++_ octets-taken (rest .octets ∙ ap (λ (x : Step). octetsOut (x .out)) state-is)
+            ∙ sym (octets-append (ran .out) (more .out))
+            ∙ ap octetsOut (sym out-is);
+        statuses =
+            ap₂ _++_ statuses-taken (rest .statuses ∙ ap (λ (x : Step). listed status (x .out)) state-is)
+            ∙ sym (listed-append status (ran .out) (more .out))
+            ∙ ap (listed status) (sym out-is);
+      }
+
+  pub all-calls : (s : Receiver) (calls : List Receiving) → AllHeard mode s calls → AllRun s calls
+  unfolding run octetsOut listed
+  all-calls s [] h = record { whole = refl; octets = refl; statuses = refl }
+  all-calls s (c ∷ calls) h = with-call s c (h .0) calls (all-calls (receiving mode s c .answer .state) calls (h .1))

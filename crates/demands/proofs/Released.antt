@@ -1,0 +1,118 @@
+-- A transfer's answers, by number: octet j and status of release i are those of the run over all multiblocks heard. Assumes nothing.
+use mathlib.Core.Path.{_≡_, refl, sym, ap, _∙_, subst}
+use mathlib.Core.List.{List}
+use Prim.Native.Nat.{ℕ, zero, suc, _+_, _-_, _*_, _/_, _<_, _≤_}
+use native.Mathlib.Omega.{arith}
+use lib.Bits.{bitXor}
+use lib.ListN.{length, getD}
+use Rattle.bits.specs.Order.{bitAt}
+use Rattle.bits.proofs.Numbers.{bitAt-lt}
+use Rattle.frame.specs.Modes.{Row, row}
+use Rattle.frame.specs.Lane.{laneOctets}
+use Rattle.frame.proofs.Lane.{laneFrom}
+use Rattle.frame.proofs.SyncWord.{row-stands}
+use Rattle.frame.proofs.Sizes.{row-proper, row-octets}
+use Rattle.sender.proofs.Runs.{lane-length}
+use Rattle.receiver.specs.Release.{Release, fresh, releaseAt, run}
+use Rattle.receiver.proofs.Afresh.{all-but-one}
+use Rattle.receiver.proofs.Buffers.{listed-length, release-length}
+use Rattle.receiver.proofs.Numbered.{nth, waiting, numbered, octet-at, listed-at}
+use Rattle.demands.specs.Calls.{userOctets, laneSent, laneHeard}
+use Rattle.demands.specs.Transfer.{Transfer, flips, DamagedBy, releases, released, status}
+use Rattle.demands.specs.Damage.{Pairwise}
+use Rattle.demands.proofs.Pairs.{pairs}
+use Rattle.demands.proofs.Heard.{AllRun, all-calls}
+use Rattle.demands.proofs.Sent.{OneLane, one-lane, allCommands, Sends, sends}
+use Rattle.demands.proofs.Delivered.{Lanes}
+
+module _ {mode E : ℕ} (t : Transfer mode E) where
+  abbrev R : Row
+  R = row mode
+
+  -- the lane from where the receiver began, and what it heard
+  abbrev pub before : ℕ → ℕ
+  before = laneFrom (R .gap) (bitAt (laneSent mode E (t .start) (t .sendings))) (t .from)
+
+  abbrev pub after : ℕ → ℕ
+  after = bitAt (laneHeard (t .receivings))
+
+  -- how many multiblocks it heard
+  abbrev pub count : ℕ
+  count = length (laneHeard (t .receivings)) / 264
+
+  all-run : AllRun mode fresh (t .receivings)
+  all-run = all-calls mode fresh (t .receivings) (t .heard)
+
+  one : OneLane mode E (t .start) (t .sendings)
+  one = one-lane mode E (t .start) (t .sendings) (t .sent)
+
+  pub sends-them : Sends R (userOctets (t .sendings)) (t .start .history) (t .from) count before
+  sends-them =
+      sends mode E (t .start) (t .sendings) one (t .from) count
+      (let lane = ap length (one .made) ∙ lane-length R E (t .start) (userOctets (t .sendings)) (allCommands (t .sendings)) in
+      let inside = t .inside in
+      let octets = row-octets mode in
+      let sent : length (laneSent mode E (t .start) (t .sendings)) ≡ 264 * length (allCommands (t .sendings)) = lane ∙ ap (λ (x : ℕ). x * length (allCommands (t .sendings))) octets in
+      let skipped : laneOctets (R .gap) * t .from ≡ 264 * t .from = ap (λ (x : ℕ). x * t .from) octets in
+      omega (arith, all-run .whole))
+
+  pub by-pairs : (limit clear : ℕ) → DamagedBy t limit clear → Pairwise limit clear (8 * laneOctets (R .gap) * count) (flips t)
+  by-pairs limit clear damaged =
+      subst (λ (n : ℕ). Pairwise limit clear n (flips t)) {x = 8 * length (laneHeard (t .receivings))} {y = 8 * laneOctets (R .gap) * count}
+      (omega (arith, all-run .whole, ap (λ (x : ℕ). 8 * x * count) (row-octets mode)))
+      (pairs limit clear (8 * length (laneHeard (t .receivings))) (flips t) damaged)
+
+  -- a transfer's two lanes, where two multiblocks are no longer than the clear bits between bursts
+  abbrev pub lanes : (limit clear : ℕ) → 0 < limit → 16 * laneOctets (R .gap) ≤ clear → DamagedBy t limit clear → Lanes R
+  lanes limit clear some wide damaged = record {
+    stands = row-stands mode;
+    proper = row-proper mode;
+    user = userOctets (t .sendings);
+    history = t .start .history;
+    first = t .from;
+    count = count;
+    before = before;
+    after = after;
+    sends = sends-them;
+    bits = bitAt-lt (laneHeard (t .receivings));
+    limit = limit;
+    clear = clear;
+    some = some;
+    wide = wide;
+    close = by-pairs limit clear damaged;
+  }
+
+  out : List Release
+  out = run R after fresh count .out
+
+  out-length : length out ≡ count - 1
+  unfolding out
+  out-length = all-but-one mode after count
+
+  -- all but the last were released
+  pub all-released : (i : ℕ) → i < releases t → suc i < count
+  unfolding out
+  all-released i h =
+      let e : releases t ≡ length out = ap length (all-run .statuses) ∙ listed-length (λ (r : Release). r .status) out in
+      omega (arith, out-length)
+
+  module _ (i : ℕ) (l : suc i < count) where
+    at : (k : ℕ) → suc k < count → nth out k ≡ releaseAt R after (suc k) (waiting R after k)
+    unfolding out
+    at k h =
+        let e : suc (count - 1) ≡ count = omega arith in
+        ap (λ (n : ℕ). nth (run R after fresh n .out) k) (sym e) ∙ numbered R after (count - 1) k (omega arith)
+
+    pub status-at : status t i ≡ releaseAt R after (suc i) (waiting R after i) .status
+    unfolding out
+    status-at =
+        ap (λ (x : List ℕ). getD x i 0) (all-run .statuses)
+        ∙ listed-at (λ (r : Release). r .status) out i (omega (arith, out-length))
+        ∙ ap (λ (r : Release). r .status) (at i l)
+
+    pub octet-released : (j : ℕ) → j < 256 → released t i j ≡ getD (releaseAt R after (suc i) (waiting R after i) .octets) j 0
+    unfolding out
+    octet-released j h =
+        ap (λ (x : List ℕ). getD x (256 * i + j) 0) (all-run .octets)
+        ∙ octet-at out i j (λ k m. ap (λ (r : Release). length (r .octets)) (at k (omega (arith, out-length))) ∙ release-length R after (suc k) (waiting R after k)) (omega (arith, out-length)) h
+        ∙ ap (λ (r : Release). getD (r .octets) j 0) (at i l)

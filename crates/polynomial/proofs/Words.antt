@@ -1,0 +1,139 @@
+-- The FEC remainder 64 bits at once. The code's shifts and the remainder both add up, so they agree on every word once they agree on each
+-- single bit, which the checker computes. Assumes nothing.
+use mathlib.Core.Path.{_≡_, refl, sym, ap, ap₂, _∙_}
+use mathlib.Core.List.{List, [], _∷_}
+use Prim.Native.Nat.{ℕ, _+_, _-_, _*_, _/_, _%_, _^_, _≤_, _<_}
+use native.Mathlib.Nat.{zero-add}
+use native.Mathlib.Omega.{arith}
+use lib.ListN.{length}
+use lib.Dec.{T, eqb, lit<, lit≤}
+use lib.Pow.{shl-exact}
+use lib.Bits.{bitXor, xor-zero-r}
+use Rattle.bits.specs.Order.{bitAt, bitsOf, run, number, digits}
+use Rattle.bits.proofs.Xor.{xor-swap}
+use Rattle.bits.proofs.Additive.{Additive, agree-test, shift-right, shift-left, shift-up, low-bits, after}
+use Rattle.bits.proofs.Runs.{run-append, digits-number}
+use Rattle.bits.proofs.Tests.{every}
+use Rattle.polynomial.specs.Polynomial.{scale, timesX}
+use Rattle.polynomial.specs.Remainder.{next, remainderFrom, remainder}
+use Rattle.polynomial.proofs.Remainder.{from-digits, from-append, from-lt}
+
+abbrev fecFrom : ℕ → List ℕ → ℕ
+fecFrom = remainderFrom 26 0x0220211
+
+-- ---- sums of shifts
+
+-- s, and x shifted by each of some numbers of places
+unfoldable pub shifts : (ℕ → ℕ → ℕ) → List ℕ → ℕ → ℕ → ℕ
+shifts shift [] s x = s
+shifts shift (k ∷ ks) s x = shifts shift ks (bitXor s (shift k x)) x
+
+shifts-xor : (shift : ℕ → ℕ → ℕ) → ((k : ℕ) → Additive (shift k)) → (ks : List ℕ) (s t x y : ℕ)
+    → shifts shift ks (bitXor s t) (bitXor x y) ≡ bitXor (shifts shift ks s x) (shifts shift ks t y)
+unfolding shifts
+shifts-xor shift h [] s t x y = refl
+shifts-xor shift h (k ∷ ks) s t x y =
+    ap (λ (z : ℕ). shifts shift ks z (bitXor x y)) (ap (bitXor (bitXor s t)) (h k x y) ∙ xor-swap s t (shift k x) (shift k y))
+    ∙ shifts-xor shift h ks (bitXor s (shift k x)) (bitXor t (shift k y)) x y
+
+-- x, and x shifted down
+unfoldable pub downs : List ℕ → ℕ → ℕ
+downs ks x = shifts (λ k y. y / 2 ^ k) ks x x
+
+-- x, and x shifted up in 64 bits
+unfoldable pub ups : List ℕ → ℕ → ℕ
+ups ks x = shifts (λ k y. y * 2 ^ k % 2 ^ 64) ks x x
+
+-- shifts down again and again
+unfoldable pub rounds : List (List ℕ) → ℕ → ℕ
+rounds [] x = x
+rounds (ks ∷ kss) x = rounds kss (downs ks x)
+
+ups-additive : (ks : List ℕ) → Additive (ups ks)
+unfolding ups
+ups-additive ks a b = shifts-xor (λ k y. y * 2 ^ k % 2 ^ 64) (λ k. shift-left k 64) ks a b a b
+
+rounds-additive : (kss : List (List ℕ)) → Additive (rounds kss)
+unfolding rounds downs
+rounds-additive [] a b = refl
+rounds-additive (ks ∷ kss) a b =
+    ap (rounds kss) (shifts-xor (λ k y. y / 2 ^ k) shift-right ks a b a b) ∙ rounds-additive kss (downs ks a) (downs ks b)
+
+-- ---- a word
+
+-- the word times x^26, over the polynomial
+unfoldable pub quotient : ℕ → ℕ
+quotient = rounds ((5 ∷ 9 ∷ 17 ∷ 22 ∷ 26 ∷ []) ∷ (10 ∷ 18 ∷ 34 ∷ 44 ∷ 52 ∷ []) ∷ (20 ∷ 36 ∷ []) ∷ (40 ∷ []) ∷ [])
+
+-- the quotient times the polynomial's lower part
+unfoldable pub product : ℕ → ℕ
+product x = ups (4 ∷ 9 ∷ 17 ∷ 21 ∷ []) (quotient x)
+
+-- what the division leaves
+unfoldable leftOver : ℕ → ℕ
+leftOver x = product x % 2 ^ 26
+
+leftOver-additive : Additive leftOver
+unfolding leftOver product quotient
+leftOver-additive =
+    after (λ a. a % 2 ^ 26) product (low-bits 26) (after (ups _) quotient (ups-additive _) (rounds-additive _))
+
+-- at each bit of a word
+word-test : T (every (λ i. eqb (leftOver (2 ^ i)) (fecFrom 0 (digits 64 (2 ^ i)))) 64)
+unfolding every leftOver product quotient rounds ups downs shifts remainderFrom digits next scale timesX
+word-test = tt
+
+of-word : (word : ℕ) → word < 2 ^ 64 → leftOver word ≡ fecFrom 0 (digits 64 word)
+of-word = agree-test leftOver (λ x. fecFrom 0 (digits 64 x)) leftOver-additive (from-digits 26 0x0220211 64 0 0) 64 word-test
+
+-- at each bit of a remainder, which the code adds to the word's top
+start-test : T (every (λ i. eqb (leftOver (2 ^ i * 2 ^ 38)) (fecFrom (2 ^ i) (digits 64 0))) 26)
+unfolding every leftOver product quotient rounds ups downs shifts remainderFrom digits next scale timesX
+start-test = tt
+
+of-start : (r : ℕ) → r < 2 ^ 26 → leftOver (r * 2 ^ 38) ≡ fecFrom r (digits 64 0)
+of-start =
+    agree-test (λ r. leftOver (r * 2 ^ 38)) (λ r. fecFrom r (digits 64 0)) (after leftOver (λ r. r * 2 ^ 38) leftOver-additive (shift-up 38))
+    (λ r s. from-digits 26 0x0220211 64 r s 0 0) 26 start-test
+
+of-both : (r word : ℕ) → r < 2 ^ 26 → word < 2 ^ 64 → leftOver (bitXor word (r * 2 ^ 38)) ≡ fecFrom r (digits 64 word)
+of-both r word h l =
+    leftOver-additive word (r * 2 ^ 38)
+    ∙ ap₂ bitXor (of-word word l) (of-start r h)
+    ∙ sym (from-digits 26 0x0220211 64 0 r word 0)
+    ∙ ap (λ (x : ℕ). fecFrom r (digits 64 x)) (xor-zero-r word)
+
+-- as the code writes it, which casts r first
+pub left-over : (r word wide : ℕ) → r < 2 ^ 26 → word < 2 ^ 64 → wide ≡ r
+    → product (bitXor word (wide * 2 ^ 38 % 2 ^ 64)) % 2 ^ 26 ≡ fecFrom r (digits 64 word)
+unfolding leftOver
+left-over r word wide h l e =
+    ap (λ (x : ℕ). product (bitXor word x) % 2 ^ 26) (ap (λ (x : ℕ). x * 2 ^ 38 % 2 ^ 64) e ∙ shl-exact 26 38 64 h (lit≤ tt))
+    ∙ of-both r word h l
+
+-- ---- word by word
+
+pub fecFrom-lt : (bits : List ℕ) → fecFrom 0 bits < 2 ^ 26
+fecFrom-lt bits = from-lt 26 0x0220211 (lit< tt) 0 bits (lit< tt)
+
+-- the bits before place a, and then n more
+before : (f : ℕ → ℕ) (a n k m : ℕ) → k ≡ a → a + n ≡ m → fecFrom (fecFrom 0 (run f 0 a)) (run f k n) ≡ fecFrom 0 (run f 0 m)
+before f a n k m p e =
+    ap (λ (k : ℕ). fecFrom (fecFrom 0 (run f 0 a)) (run f k n)) (p ∙ sym (zero-add a))
+    ∙ sym (from-append 26 0x0220211 0 (run f 0 a) (run f (0 + a) n))
+    ∙ ap (fecFrom 0) (sym (run-append f 0 a n) ∙ ap (run f 0) e)
+
+-- a word more
+pub word-more : (f : ℕ → ℕ) → ((k : ℕ) → f k < 2) → (i s word : ℕ) → s ≡ fecFrom 0 (run f 0 (64 * i)) → word ≡ number f (8 * (8 * i)) 64
+    → fecFrom s (digits 64 word) ≡ fecFrom 0 (run f 0 (64 * (i + 1)))
+word-more f d i s word p e =
+    ap₂ fecFrom p (ap (digits 64) e ∙ digits-number f d (8 * (8 * i)) 64)
+    ∙ before f (64 * i) 64 (8 * (8 * i)) (64 * (i + 1)) (omega arith) (omega arith)
+
+-- the octets that fill no word
+pub words-rest : (octets : List ℕ) (count s : ℕ) → 8 * count ≤ length octets → s ≡ fecFrom 0 (run (bitAt octets) 0 (64 * count))
+    → fecFrom s (run (bitAt octets) (8 * (8 * count)) (8 * (length octets - 8 * count))) ≡ remainder 26 0x0220211 (bitsOf octets)
+unfolding remainder bitsOf
+words-rest octets count s h p =
+    ap (λ (r : ℕ). fecFrom r (run (bitAt octets) (8 * (8 * count)) (8 * (length octets - 8 * count)))) p
+    ∙ before (bitAt octets) (64 * count) (8 * (length octets - 8 * count)) (8 * (8 * count)) (8 * length octets) (omega arith) (omega arith)

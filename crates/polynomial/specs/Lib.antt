@@ -1,0 +1,3 @@
+-- Arithmetic modulo a polynomial, and remainders.
+pub mod Polynomial
+pub mod Remainder

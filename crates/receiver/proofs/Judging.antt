@@ -1,0 +1,95 @@
+-- What a verdict is by the difference of the two parities, what it mends, and what is marked of it: document 01, "What the receiver releases".
+-- Assumes nothing.
+use mathlib.Core.Path.{_≡_, refl, ap, _∙_}
+use mathlib.Core.Logic.{_⊎_, inl, inr, _≢_}
+use mathlib.Core.Bool.{Bool, true, false}
+use mathlib.Core.List.{List}
+use Prim.Native.Nat.{ℕ, zero, suc, _+_, _*_, _≤_, _<_}
+use native.Mathlib.Nat.{add-zero}
+use native.Mathlib.Omega.{arith}
+use lib.Dec.{eqb}
+use lib.Bits.{bitXor, xor-lt, xor-zero-r}
+use borrow.Author.Tests.{leb-true, eq-eqb, ne-eqb}
+use Rattle.bits.specs.Choice.{pick}
+use Rattle.bits.specs.Order.{bitAt}
+use Rattle.bits.proofs.Numbers.{bitAt-lt}
+use Rattle.bits.proofs.Octets.{bit-octetsOf}
+use Rattle.parity.specs.declared.Burst.the-variants.{At}
+use Rattle.parity.specs.Codeword.{parityOf}
+use Rattle.parity.specs.Bursts.{flips}
+use Rattle.parity.specs.Answer.{Explains}
+use Rattle.parity.proofs.Sets.{flips-bit}
+use Rattle.parity.proofs.Answer.{answer-is}
+use Rattle.frame.specs.Modes.{Row}
+use Rattle.receiver.specs.declared.Verdict.{Verdict}
+use Rattle.receiver.specs.Judge.{agrees, failed, byBurst, verdictOf, judged, mended, marked, trustedAfter}
+use Rattle.receiver.specs.Sound.{sound}
+use Rattle.receiver.proofs.Mending.{flips-none}
+
+false-not-true : false ≡ true → ⊥
+false-not-true e = let z : _≡_ {A = ℕ} 0 1 = cc in omega arith
+
+module _ (R : Row) (octets : List ℕ) (parity : ℕ) where
+  abbrev difference : ℕ
+  difference = bitXor (parityOf (R .code) octets) parity
+
+  pub judged-sound : difference ≡ 0 → judged R octets parity ≡ agrees
+  unfolding judged verdictOf
+  judged-sound e = rw (eq-eqb difference 0 e)
+
+  pub judged-failed : R .repairs ≡ false → difference ≢ 0 → judged R octets parity ≡ failed
+  unfolding judged verdictOf
+  judged-failed r n = rw (ne-eqb difference 0 n, r)
+
+  pub judged-burst : (place pattern : ℕ) → R .repairs ≡ true → difference ≢ 0 → Explains difference place pattern
+      → judged R octets parity ≡ record { status = 1; place = place; pattern = pattern }
+  unfolding judged verdictOf
+  judged-burst place pattern r n e = rw (ne-eqb difference 0 n, r, ← answer-is difference (At place pattern) e)
+
+pub mended-bit : (v : Verdict) (octets : List ℕ) (k : ℕ) → k < 2048 → bitAt (mended v octets) k ≡ bitXor (bitAt octets k) (flips (v .place) (v .pattern) k)
+unfolding mended
+mended-bit v octets k h =
+    bit-octetsOf (λ k. bitXor (bitAt octets k) (flips (v .place) (v .pattern) k)) (λ k. xor-lt 1 _ _ (bitAt-lt octets k) (flips-bit (v .place) (v .pattern) k)) 256 k (omega arith)
+
+-- where parity agrees or nothing explains it, the data stay as they are
+pub mended-none : (v : Verdict) (octets : List ℕ) (k : ℕ) → v .pattern ≡ 0 → k < 2048 → bitAt (mended v octets) k ≡ bitAt octets k
+mended-none v octets k z h =
+    mended-bit v octets k h
+    ∙ ap (bitXor (bitAt octets k)) (ap (λ (x : ℕ). flips (v .place) x k) z ∙ flips-none (v .place) k)
+    ∙ xor-zero-r (bitAt octets k)
+
+pub marked-trusted : (v : Verdict) → marked v true ≡ v .status
+unfolding marked
+marked-trusted v = add-zero (v .status)
+
+pub marked-untrusted : (v : Verdict) → marked v false ≡ v .status + 4
+unfolding marked
+marked-untrusted v = refl
+
+pub trusted-after : (v : Verdict) → v .status ≢ 2 → trustedAfter v ≡ true
+unfolding trustedAfter
+trusted-after v n = rw (ne-eqb (v .status) 2 n)
+
+pub untrusted-after : (v : Verdict) → v .status ≡ 2 → trustedAfter v ≡ false
+unfolding trustedAfter
+untrusted-after v e = rw (eq-eqb (v .status) 2 e)
+
+-- ---- sound octets
+
+-- an octet called sound is of a multiblock that has not failed, and after a trusted history or past the first eight
+pub record Believed (v : Verdict) (trusted : Bool) (j : ℕ) : Type 0 where
+  pub not-failed : v .status ≢ 2
+  pub known : (trusted ≡ true) ⊎ (8 ≤ j)
+
+pub believed : (v : Verdict) (trusted : Bool) (j : ℕ) → v .status ≤ 2 → sound (marked v trusted) j ≡ true → Believed v trusted j
+unfolding sound marked
+believed v trusted j h e = by trusted (v .status) h e
+  where
+    by : (t : Bool) (n : ℕ) → n ≤ 2 → sound (n + pick t 0 4) j ≡ true → Believed (record { status = n; place = v .place; pattern = v .pattern }) t j
+    by true zero h e = record { not-failed = λ z. absurd (omega arith); known = inl refl }
+    by true (suc zero) h e = record { not-failed = λ z. absurd (omega arith); known = inl refl }
+    by true (suc (suc zero)) h e = absurd (false-not-true e)
+    by false zero h e = record { not-failed = λ z. absurd (omega arith); known = inr (let l = leb-true _ j e in omega arith) }
+    by false (suc zero) h e = record { not-failed = λ z. absurd (omega arith); known = inr (let l = leb-true _ j e in omega arith) }
+    by false (suc (suc zero)) h e = absurd (false-not-true e)
+    by t (suc (suc (suc n))) h e = absurd (omega arith)

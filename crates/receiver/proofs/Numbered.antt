@@ -1,0 +1,164 @@
+-- Releases by number: release i of a fresh receiver is multiblock i, judged by the parity in multiblock i + 1, after the history that
+-- multiblock i - 1 left. Document 01, "What the receiver releases". Assumes nothing.
+use mathlib.Core.Path.{_≡_, refl, sym, ap, _∙_}
+use mathlib.Core.Bool.{Bool, true, false}
+use mathlib.Core.List.{List, [], _∷_, _++_, append-assoc}
+use Prim.Native.Nat.{ℕ, zero, suc, _+_, _-_, _*_, _<_}
+use native.Mathlib.Nat.{not-suc-le-zero}
+use native.Mathlib.Decide.{decLt}
+use native.Mathlib.Omega.{arith}
+use lib.ListN.{length, getD, length-append, List·getD-append}
+use lib.Seq.{getD-at, getD-append-add}
+use Rattle.bits.specs.Choice.{pick}
+use Rattle.bits.specs.Order.{bitAt, number}
+use Rattle.frame.specs.Modes.{Row}
+use Rattle.frame.specs.Lane.{dataOctets, syncBit}
+use Rattle.frame.specs.SyncWord.{readParity}
+use Rattle.scrambler.specs.Scrambling.{descrambled}
+use Rattle.receiver.specs.declared.Verdict.{Verdict}
+use Rattle.receiver.specs.declared.Receiver.{Receiver}
+use Rattle.receiver.specs.Judge.{judged, mended, marked, trustedAfter}
+use Rattle.receiver.specs.Release.{fresh, Release, Step, verdictAt, mendedAt, releaseAt, waitingAt, step, run}
+use Rattle.receiver.specs.Refusal.{releases}
+use Rattle.receiver.specs.Entry.{octetsOut, listed}
+use Rattle.receiver.proofs.Counts.{then-waits, step-released, step-first, counts}
+use Rattle.receiver.proofs.Buffers.{release-length}
+
+-- the release at a number, in a list of them
+abbrev pub nth : List Release → ℕ → Release
+nth out i = getD out i (record { octets = []; status = 0; command = 0; place = 0; pattern = 0 })
+
+either-octets : (w : Bool) (a b : Step) (l : List ℕ) → a .state .octets ≡ l → b .state .octets ≡ l → pick w a b .state .octets ≡ l
+either-octets true a b l h k = h
+either-octets false a b l h k = k
+
+module _ (R : Row) (lane : ℕ → ℕ) where
+  -- the state once multiblocks 0 to i have come: multiblock i waits
+  abbrev pub waiting : ℕ → Receiver
+  waiting i = run R lane fresh (suc i) .state
+
+  abbrev pub verdict : ℕ → Verdict
+  verdict i = verdictAt R lane (suc i) (waiting i)
+
+  abbrev pub whole : ℕ → List ℕ
+  whole i = mendedAt R lane (suc i) (waiting i)
+
+  pub waits : (i : ℕ) → waiting i .waiting ≡ true
+  unfolding run
+  waits i = then-waits R lane i (run R lane fresh i .state)
+
+  pub waiting-octets : (i : ℕ) → waiting i .octets ≡ dataOctets (R .gap) lane i
+  unfolding run step waitingAt
+  waiting-octets i = either-octets (run R lane fresh i .state .waiting) _ _ (dataOctets (R .gap) lane i) refl refl
+
+  pub verdict-is : (i : ℕ) → verdict i ≡ judged R (dataOctets (R .gap) lane i) (readParity R (syncBit (R .gap) lane (suc i)))
+  unfolding verdictAt
+  verdict-is i = ap (λ (l : List ℕ). judged R l (readParity R (syncBit (R .gap) lane (suc i)))) (waiting-octets i)
+
+  pub whole-is : (i : ℕ) → whole i ≡ mended (verdict i) (dataOctets (R .gap) lane i)
+  unfolding mendedAt
+  whole-is i = ap (mended (verdict i)) (waiting-octets i)
+
+  pub octets-are : (i : ℕ) → releaseAt R lane (suc i) (waiting i) .octets ≡ descrambled (whole i) (waiting i .history) 256
+  unfolding releaseAt
+  octets-are i = refl
+
+  pub status-is : (i : ℕ) → releaseAt R lane (suc i) (waiting i) .status ≡ marked (verdict i) (waiting i .trusted)
+  unfolding releaseAt
+  status-is i = refl
+
+  -- nothing came before the first
+  pub first-trusted : waiting 0 .trusted ≡ false
+  unfolding run step waitingAt
+  first-trusted = refl
+
+  step-next : (m : ℕ) (s : Receiver) → s .waiting ≡ true
+      → step R lane m s .state ≡ waitingAt R lane m (number (bitAt (mendedAt R lane m s)) 1990 58) (trustedAfter (verdictAt R lane m s))
+  unfolding step
+  step-next m s w = simp w
+
+  next-state : (i : ℕ) → waiting (suc i) ≡ waitingAt R lane (suc i) (number (bitAt (whole i)) 1990 58) (trustedAfter (verdict i))
+  next-state i = unfold run in (step-next (suc i) (waiting i) (waits i))
+
+  pub next-history : (i : ℕ) → waiting (suc i) .history ≡ number (bitAt (whole i)) 1990 58
+  unfolding waitingAt
+  next-history i = ap (λ (s : Receiver). s .history) (next-state i)
+
+  pub next-trusted : (i : ℕ) → waiting (suc i) .trusted ≡ trustedAfter (verdict i)
+  unfolding waitingAt
+  next-trusted i = ap (λ (s : Receiver). s .trusted) (next-state i)
+
+  one-more : (n : ℕ) → run R lane fresh (suc (suc n)) .out ≡ run R lane fresh (suc n) .out ++ (releaseAt R lane (suc n) (waiting n) ∷ [])
+  one-more n = unfold run in ap (λ (l : List Release). run R lane fresh (suc n) .out ++ l) (step-released R lane (suc n) (waiting n) (waits n))
+
+  pub so-many : (n : ℕ) → length (run R lane fresh (suc n) .out) ≡ n
+  unfolding releases
+  so-many n = counts R lane fresh (suc n) ∙ omega arith
+
+  -- the last of n + 1, or one of those before
+  last-or : (n i : ℕ) → i < suc n → (i < n → nth (run R lane fresh (suc n) .out) i ≡ releaseAt R lane (suc i) (waiting i)) → Dec (i < n)
+      → nth (run R lane fresh (suc n) .out ++ (releaseAt R lane (suc n) (waiting n) ∷ [])) i ≡ releaseAt R lane (suc i) (waiting i)
+  last-or n i h before (yes l) = List·getD-append (run R lane fresh (suc n) .out) _ _ i (omega (arith, so-many n)) ∙ before l
+  last-or n i h before (no l) =
+      let e : i ≡ n = omega arith in
+      getD-at (run R lane fresh (suc n) .out) (releaseAt R lane (suc n) (waiting n)) [] _ i (so-many n ∙ sym e) ∙ ap (λ (k : ℕ). releaseAt R lane (suc k) (waiting k)) (sym e)
+
+  pub numbered : (n i : ℕ) → i < n → nth (run R lane fresh (suc n) .out) i ≡ releaseAt R lane (suc i) (waiting i)
+  numbered zero i h = absurd (not-suc-le-zero h)
+  numbered (suc n) i h = ap (λ (l : List Release). nth l i) (one-more n) ∙ last-or n i h (numbered n i) (decLt i n)
+
+-- ---- all that is released
+
+pub octets-append : (a b : List Release) → octetsOut (a ++ b) ≡ octetsOut a ++ octetsOut b
+unfolding octetsOut
+octets-append [] b = refl
+octets-append (r ∷ a) b = ap (λ (l : List ℕ). r .octets ++ l) (octets-append a b) ∙ sym (append-assoc (r .octets) (octetsOut a) (octetsOut b))
+
+pub listed-append : (f : Release → ℕ) (a b : List Release) → listed f (a ++ b) ≡ listed f a ++ listed f b
+unfolding listed
+listed-append f [] b = refl
+listed-append f (r ∷ a) b = ap (λ (l : List ℕ). f r ∷ l) (listed-append f a b)
+
+-- each release has 256 octets
+module _ (R : Row) (lane : ℕ → ℕ) where
+  one-full : (m : ℕ) (s : Receiver) → length (octetsOut (step R lane m s .out)) ≡ 256 * length (step R lane m s .out)
+  one-full m s = by (s .waiting) refl
+    where
+      by : (w : Bool) → s .waiting ≡ w → length (octetsOut (step R lane m s .out)) ≡ 256 * length (step R lane m s .out)
+      by true e =
+          ap (λ (l : List Release). length (octetsOut l)) (step-released R lane m s e)
+          ∙ unfold octetsOut in (length-append (releaseAt R lane m s .octets) [] ∙ omega (arith, release-length R lane m s))
+          ∙ ap (λ (l : List Release). 256 * length l) (sym (step-released R lane m s e))
+      by false e =
+          ap (λ (x : Step). length (octetsOut (x .out))) (step-first R lane m s e)
+          ∙ unfold octetsOut in refl
+          ∙ ap (λ (x : Step). 256 * length (x .out)) (sym (step-first R lane m s e))
+
+  pub all-full : (s : Receiver) (n : ℕ) → length (octetsOut (run R lane s n .out)) ≡ 256 * length (run R lane s n .out)
+  unfolding run octetsOut
+  all-full s zero = refl
+  all-full s (suc n) =
+      let a = run R lane s n .out in
+      let b = step R lane n (run R lane s n .state) .out in
+      ap length (octets-append a b)
+      ∙ length-append (octetsOut a) (octetsOut b)
+      ∙ omega (arith, all-full s n, one-full n (run R lane s n .state), length-append a b)
+
+-- octet j of release i, where each release has 256
+pub octet-at : (out : List Release) (i j : ℕ) → ((k : ℕ) → k < length out → length (nth out k .octets) ≡ 256) → i < length out → j < 256
+    → getD (octetsOut out) (256 * i + j) 0 ≡ getD (nth out i .octets) j 0
+unfolding octetsOut
+octet-at [] i j full h l = absurd (not-suc-le-zero h)
+octet-at (r ∷ out) zero j full h l =
+    ap (λ (x : ℕ). getD (r .octets ++ octetsOut out) x 0) {x = 256 * 0 + j} {y = j} (omega arith)
+    ∙ List·getD-append (r .octets) (octetsOut out) 0 j (omega (arith, full 0 (omega arith)))
+octet-at (r ∷ out) (suc i) j full h l =
+    ap (λ (x : ℕ). getD (r .octets ++ octetsOut out) x 0) {x = 256 * suc i + j} {y = length (r .octets) + (256 * i + j)} (omega (arith, full 0 (omega arith)))
+    ∙ getD-append-add (r .octets) (octetsOut out) (256 * i + j) 0
+    ∙ octet-at out i j (λ k q. full (suc k) (omega arith)) (omega arith) l
+
+pub listed-at : (f : Release → ℕ) (out : List Release) (i : ℕ) → i < length out → getD (listed f out) i 0 ≡ f (nth out i)
+unfolding listed
+listed-at f [] i h = absurd (not-suc-le-zero h)
+listed-at f (r ∷ out) zero h = refl
+listed-at f (r ∷ out) (suc i) h = listed-at f out i (omega arith)

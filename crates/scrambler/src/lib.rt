@@ -1,0 +1,112 @@
+// Scrambling and descrambling, 64 bits at once: clause 7.2.4.
+ghost use mathlib.Core.Path.{_≡_};
+ghost use Prim.Native.Nat.{_%_, _^_, _≤_};
+ghost use lib.Dec.{eqb};
+ghost use lib.ListN.{length};
+ghost use Rattle.bits.specs.Choice.{pick};
+ghost use Rattle.bits.specs.Order.{bitAt, digit, number, laid};
+ghost use Rattle.bits.specs.Parts.{refusalOf, written};
+ghost use Rattle.scrambler.specs.Scrambling.{sent, plain, scrambled, descrambled, historyAfter};
+
+// The block sent for a user's block after a history.
+pub fn scramble(user: u64, history: u64) -> u64
+    ensures { λ r. ⌜ r ≡ number (sent (digit 64 user) history) 0 64 ⌝ }
+{
+    let own = user ^ (history << 25) ^ (history << 6);
+    own ^ (own >> 39) ^ (own >> 58)
+}
+
+// The user's block of a block received after a history.
+pub fn descramble(block: u64, history: u64) -> u64
+    ensures { λ r. ⌜ r ≡ number (plain history (digit 64 block)) 0 64 ⌝ }
+{
+    block ^ (block >> 39) ^ (block >> 58) ^ ((history << 25) ^ (history << 6))
+}
+
+// The history after a block that was sent or received.
+pub fn history_after(block: u64) -> u64
+    ensures { λ r. ⌜ r ≡ block % 2 ^ 58 ⌝ }
+{
+    block & 0x3ff_ffff_ffff_ffff
+}
+
+// A refusal, or 0 and the history after the octets.
+pub struct Turned {
+    pub refusal: u8,
+    pub history: u64,
+}
+
+// The 32 blocks of a multiblock, each after the history that the block before leaves.
+fn scramble_blocks(user: &[u8], history: u64, out: &mut [u8]) -> u64
+    requires { ⌜ 256 ≤ length (now out) ⌝ }
+    ensures { λ r. ⌜ r ≡ historyAfter (bitAt (now (user .entry))) history 2048 ⌝ }
+    ensures { λ _. ⌜ now (out .exit) ≡ laid (scrambled (now (user .entry)) history 256) (now (out .entry)) ⌝ }
+{
+    let mut past = history_after(history);
+    for i in 0..32usize {
+        let block = scramble(bits::word_at(user, 8 * i), past);
+        bits::put_word(out, 8 * i, block);
+        past = history_after(block);
+    }
+    past
+}
+
+// The user's first 256 octets scrambled over the start of `out`.
+pub fn scramble_multiblock(user: &[u8], history: u64, out: &mut [u8]) -> Turned
+    ensures { λ r. ⌜ r .refusal ≡ refusalOf 256 (now (user .entry)) 256 (now (out .entry)) ⌝ }
+    ensures { λ r. ⌜ r .history ≡ pick (eqb (r .refusal) 0) (historyAfter (bitAt (now (user .entry))) history 2048) history ⌝ }
+    ensures { λ r. ⌜ now (out .exit) ≡ written (r .refusal) (scrambled (now (user .entry)) history 256) (now (out .entry)) ⌝ }
+{
+    if user.len() < 256 {
+        return Turned {
+            refusal: 4,
+            history,
+        };
+    }
+    if out.len() < 256 {
+        return Turned {
+            refusal: 7,
+            history,
+        };
+    }
+    let after = scramble_blocks(user, history, out);
+    Turned {
+        refusal: 0,
+        history: after,
+    }
+}
+
+// The 32 blocks of a multiblock, each after the block received before.
+fn descramble_blocks(octets: &[u8], history: u64, out: &mut [u8])
+    requires { ⌜ 256 ≤ length (now out) ⌝ }
+    ensures { λ _. ⌜ now (out .exit) ≡ laid (descrambled (now (octets .entry)) history 256) (now (out .entry)) ⌝ }
+{
+    let mut past = history_after(history);
+    for i in 0..32usize {
+        let block = bits::word_at(octets, 8 * i);
+        bits::put_word(out, 8 * i, descramble(block, past));
+        past = history_after(block);
+    }
+}
+
+// The first 256 octets received descrambled over the start of `out`.
+pub fn descramble_multiblock(octets: &[u8], history: u64, out: &mut [u8]) -> u8
+    ensures { λ r. ⌜ r ≡ refusalOf 256 (now (octets .entry)) 256 (now (out .entry)) ⌝ }
+    ensures { λ r. ⌜ now (out .exit) ≡ written r (descrambled (now (octets .entry)) history 256) (now (out .entry)) ⌝ }
+{
+    if octets.len() < 256 {
+        return 4;
+    }
+    if out.len() < 256 {
+        return 7;
+    }
+    descramble_blocks(octets, history, out);
+    0
+}
+
+// The history after 256 octets that were sent or received: their last 58 bits.
+pub fn history_of(octets: &[u8]) -> u64
+    ensures { λ r. ⌜ r ≡ number (bitAt (now (octets .entry))) 1990 58 ⌝ }
+{
+    history_after(bits::word_at(octets, 248))
+}

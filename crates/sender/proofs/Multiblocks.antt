@@ -1,0 +1,166 @@
+-- The multiblocks of a lane by number: multiblock i carries the user's bits from bit 2,048 i on, scrambled in one run with all before them,
+-- and the parity of multiblock i - 1. Document 01, "From octets to lane bits". Assumes nothing.
+use mathlib.Core.Path.{_≡_, refl, sym, ap, _∙_}
+use mathlib.Core.Bool.{Bool, true, false}
+use mathlib.Core.List.{List, [], _∷_, _++_}
+use Prim.Native.Nat.{ℕ, zero, suc, _+_, _-_, _*_, _/_, _%_, _^_, _≤_, _<_}
+use native.Mathlib.Nat.{add-zero, mod-lt, mod-self, mod-eq-of-lt, div-add-mod, mul-add-mod-self-left}
+use native.Mathlib.Omega.{arith}
+use borrow.Author.Tests.{eqb-true, eqb-false}
+use lib.Dec.{eqb}
+use lib.ListN.{length, getD, take, drop, length-append, length-drop}
+use lib.Seq.{split-at, drop-at, take-suc, length-take-le, take-all}
+use Rattle.bits.specs.Choice.{pick, bitOf}
+use Rattle.bits.specs.Order.{bitAt, digit}
+use Rattle.bits.proofs.Octets.{bit-drop, bit-take, bit-append}
+use Rattle.parity.specs.Codeword.{parityOf}
+use Rattle.parity.proofs.Bursts.{Proper}
+use Rattle.parity.proofs.Codeword.{parity-lt}
+use Rattle.frame.specs.Modes.{Row, parity}
+use Rattle.frame.specs.Headers.{headerOf}
+use Rattle.frame.specs.Lane.{laneOctets, dataBit, headerAt, syncBit, dataOctets, multiblockBit}
+use Rattle.frame.specs.SyncWord.{held, syncWord, readParity}
+use Rattle.scrambler.specs.Scrambling.{sent, historyAfter, scrambled}
+use Rattle.frame.proofs.SyncWord.{Stands, fieldAt, held-digit, only-parity, reads-parity}
+use Rattle.frame.proofs.Lane.{laneFrom, data-moved, header-at-moved, sync-moved, octets-moved, data-back, header-back, sync-back, octets-back, multiblock-bits}
+use Rattle.scrambler.proofs.Scrambling.{length-scrambled, scrambled-bit, scrambled-lt, sent-ext, sent-add, history-ext, history-add, history-none}
+use Rattle.sender.specs.declared.Sender.{Sender}
+use Rattle.sender.specs.Lane.{last, sentOne, afterOne, lane, after}
+use Rattle.sender.proofs.Runs.{after-one, lane-more, one-length, lane-length}
+
+-- counting modulo E, by a test
+next-number : (m E : ℕ) → 0 < E → pick (eqb (m % E + 1) E) 0 (m % E + 1) ≡ (m + 1) % E
+next-number m E some = by (eqb (m % E + 1) E) refl
+  where
+    split : (m + 1) % E ≡ (m % E + 1) % E
+    split = ap (λ (x : ℕ). x % E) {x = m + 1} {y = E * (m / E) + (m % E + 1)} (omega (arith, div-add-mod m E)) ∙ mul-add-mod-self-left E (m / E) (m % E + 1)
+
+    by : (b : Bool) → eqb (m % E + 1) E ≡ b → pick b 0 (m % E + 1) ≡ (m + 1) % E
+    by true e = sym (split ∙ ap (λ (x : ℕ). x % E) (eqb-true (m % E + 1) E e) ∙ mod-self E)
+    by false e = sym (split ∙ mod-eq-of-lt (let n = eqb-false (m % E + 1) E e in let l = mod-lt m some in omega (arith, n)))
+
+module _ (R : Row) (E : ℕ) (s : Sender) (user commands : List ℕ) (given : 256 * length commands ≤ length user) where
+  -- the state before multiblock i, and its 256 user octets
+  abbrev pub before : ℕ → Sender
+  before i = after R E s user (take i commands)
+
+  abbrev own : ℕ → List ℕ
+  own i = take 256 (drop (256 * i) user)
+
+  abbrev all : List ℕ
+  all = lane R E s user commands
+
+  own-bit : (i q : ℕ) → q < 2048 → bitAt (own i) q ≡ bitAt user (2048 * i + q)
+  own-bit i q h =
+      bit-take 256 (drop (256 * i) user) q (omega arith)
+      ∙ bit-drop (256 * i) user q
+      ∙ ap (bitAt user) {x = 8 * (256 * i) + q} {y = 2048 * i + q} (omega arith)
+
+  pub before-next : (i : ℕ) → i < length commands → before (suc i) ≡ afterOne R E (before i) (own i)
+  before-next i h =
+      ap (after R E s user) (take-suc commands i 0 h)
+      ∙ after-one R E s user (take i commands) (getD commands i 0)
+      ∙ ap (λ (n : ℕ). afterOne R E (before i) (take 256 (drop (256 * n) user))) (length-take-le i commands (omega arith))
+
+  -- ---- the history
+
+  left-history : (x : Sender) (u : List ℕ) → afterOne R E x u .history ≡ historyAfter (bitAt u) (x .history) 2048
+  unfolding afterOne
+  left-history x u = refl
+
+  module _ (fits : s .history < 2 ^ 58) where
+    pub history-before : (i : ℕ) → i ≤ length commands → before i .history ≡ historyAfter (bitAt user) (s .history) (2048 * i)
+    history-before zero h = unfold after in sym (history-none (bitAt user) (s .history) fits)
+    history-before (suc i) h =
+        ap (λ (x : Sender). x .history) (before-next i (omega arith))
+        ∙ left-history (before i) (own i)
+        ∙ ap (λ (x : ℕ). historyAfter (bitAt (own i)) x 2048) (history-before i (omega arith))
+        ∙ history-ext (bitAt (own i)) (λ k. bitAt user (2048 * i + k)) (historyAfter (bitAt user) (s .history) (2048 * i)) 2048 (own-bit i)
+        ∙ history-add (bitAt user) (s .history) (2048 * i) 2048
+        ∙ ap (historyAfter (bitAt user) (s .history)) {x = 2048 * i + 2048} {y = 2048 * suc i} (omega arith)
+
+  -- ---- its number in its extended multiblock
+
+  left-number : (x : Sender) (u : List ℕ) → afterOne R E x u .number ≡ pick (last E x) 0 (x .number + 1)
+  unfolding afterOne
+  left-number x u = refl
+
+  pub number-before : s .number < E → (i : ℕ) → i ≤ length commands → before i .number ≡ (s .number + i) % E
+  number-before fits zero h = unfold after in (sym (ap (λ (x : ℕ). x % E) (add-zero (s .number)) ∙ mod-eq-of-lt fits))
+  number-before fits (suc i) h =
+      ap (λ (x : Sender). x .number) (before-next i (omega arith))
+      ∙ left-number (before i) (own i)
+      ∙ ap (λ (x : ℕ). pick (eqb (x + 1) E) 0 (x + 1)) (number-before fits i (omega arith))
+      ∙ next-number (s .number + i) E (omega arith)
+      ∙ ap (λ (x : ℕ). x % E) {x = s .number + i + 1} {y = s .number + suc i} (omega arith)
+
+  -- ---- the multiblock
+
+  abbrev octets : ℕ → List ℕ
+  octets i = scrambled (own i) (before i .history) 256
+
+  abbrev word : ℕ → ℕ
+  word i = syncWord R (before i .parity) (getD commands i 0) (bitOf (last E (before i)))
+
+  rest : ℕ → List ℕ
+  rest i = lane R E (afterOne R E (before i) (own i)) (drop 256 (drop (256 * i) user)) (drop (suc i) commands)
+
+  lane-from : (i : ℕ) → i < length commands → drop (laneOctets (R .gap) * i) all ≡ sentOne R E (before i) (own i) (getD commands i 0) ++ rest i
+  unfolding rest
+  lane-from i h =
+      let front = take i commands in
+      let counted = length-take-le i commands (omega arith) in
+      ap (λ (c : List ℕ). drop (laneOctets (R .gap) * i) (lane R E s user c)) (split-at commands i 0 h)
+      ∙ ap (drop (laneOctets (R .gap) * i)) (lane-more R E s user front (getD commands i 0 ∷ drop (suc i) commands))
+      ∙ drop-at (lane R E s user front) _ (laneOctets (R .gap) * i) (lane-length R E s user front ∙ ap (λ (n : ℕ). laneOctets (R .gap) * n) counted)
+      ∙ ap (λ (n : ℕ). lane R E (before i) (drop (256 * n) user) (getD commands i 0 ∷ drop (suc i) commands)) counted
+      ∙ unfold lane in refl
+
+  begins : (i : ℕ) → i < length commands → (x : ℕ) → x < 8 * laneOctets (R .gap) → laneFrom (R .gap) (bitAt all) i x ≡ multiblockBit (R .gap) (word i) (octets i) x
+  begins i h x l =
+      ap (bitAt all) {x = 8 * laneOctets (R .gap) * i + x} {y = 8 * (laneOctets (R .gap) * i) + x} (omega arith)
+      ∙ sym (bit-drop (laneOctets (R .gap) * i) all x)
+      ∙ ap (λ (m : List ℕ). bitAt m x) (lane-from i h)
+      ∙ bit-append (sentOne R E (before i) (own i) (getD commands i 0)) (rest i) x (omega (arith, one-length R E (before i) (own i) (getD commands i 0)))
+      ∙ unfold sentOne in multiblock-bits (R .gap) (word i) (octets i) x l
+
+  -- its sync bits
+  pub sync-sent : (i t : ℕ) → i < length commands → t < 32 → syncBit (R .gap) (bitAt all) i t ≡ digit 32 (word i) t
+  sync-sent i t h l = sync-moved (R .gap) (bitAt all) i t ∙ sync-back (R .gap) (word i) (octets i) (laneFrom (R .gap) (bitAt all) i) (begins i h) t l
+
+  -- its headers
+  pub header-sent : (i t : ℕ) → i < length commands → t < 32
+      → headerAt (R .gap) (bitAt all) i t ≡ headerOf (held (before i .parity) (getD commands i 0) (bitOf (last E (before i))) (fieldAt R t))
+  header-sent i t h l =
+      header-at-moved (R .gap) (bitAt all) i t
+      ∙ header-back (R .gap) (word i) (octets i) (laneFrom (R .gap) (bitAt all) i) (begins i h) t l
+      ∙ ap headerOf (held-digit R (before i .parity) (getD commands i 0) (bitOf (last E (before i))) t l)
+
+  module _ (fits : s .history < 2 ^ 58) where
+    pub data-sent : (i q : ℕ) → i < length commands → q < 2048 → dataBit (R .gap) (bitAt all) i q ≡ sent (bitAt user) (s .history) (2048 * i + q)
+    data-sent i q h l =
+        data-moved (R .gap) (bitAt all) i q
+        ∙ data-back (R .gap) (word i) (octets i) (laneFrom (R .gap) (bitAt all) i) (begins i h) q l
+        ∙ scrambled-bit (own i) (before i .history) 256 q (omega arith)
+        ∙ ap (λ (x : ℕ). sent (bitAt (own i)) x q) (history-before fits i (omega arith))
+        ∙ sent-ext (bitAt (own i)) (λ k. bitAt user (2048 * i + k)) (historyAfter (bitAt user) (s .history) (2048 * i)) q (λ j m. own-bit i j (omega arith))
+        ∙ sym (sent-add (bitAt user) (s .history) (2048 * i) q)
+
+  -- the parity it carries is that of the multiblock before
+  pub parity-sent : Stands R → Proper (R .code) → (i : ℕ) → suc i < length commands
+      → readParity R (syncBit (R .gap) (bitAt all) (suc i)) ≡ parityOf (R .code) (dataOctets (R .gap) (bitAt all) i)
+  parity-sent stands proper i h =
+      only-parity R (syncBit (R .gap) (bitAt all) (suc i)) (digit 32 (word (suc i))) (λ k l. sync-sent (suc i) _ h (stands .parities k l))
+      ∙ reads-parity R stands (before (suc i) .parity) (getD commands (suc i) 0) (bitOf (last E (before (suc i))))
+      ∙ ap (λ (x : ℕ). x % 2 ^ R .code .width) carried
+      ∙ mod-eq-of-lt (parity-lt (R .code) (proper .fits) (octets i))
+      ∙ ap (parityOf (R .code)) (sym back)
+    where
+      carried : before (suc i) .parity ≡ parityOf (R .code) (octets i)
+      carried = ap (λ (x : Sender). x .parity) (before-next i (omega arith)) ∙ unfold afterOne in refl
+
+      back : dataOctets (R .gap) (bitAt all) i ≡ octets i
+      back =
+          octets-moved (R .gap) (bitAt all) i
+          ∙ octets-back (R .gap) (word i) (octets i) (laneFrom (R .gap) (bitAt all) i) (begins i (omega arith)) (λ j l. scrambled-lt (own i) (before i .history) 256 j l) (omega (arith, length-scrambled (own i) (before i .history) 256))
+          ∙ take-all 256 (octets i) (omega (arith, length-scrambled (own i) (before i .history) 256))

@@ -1,0 +1,2 @@
+-- The rule of a table of powers of x.
+pub mod Powers

@@ -1,0 +1,129 @@
+/* What the runs share: lanes that the sender makes, flips of their bits, and what the receiver makes of them.
+   Where a bit stands: document 01, "From octets to lane bits" and "Parity". */
+#ifndef LANE_H
+#define LANE_H
+
+#include "zaytulobe.h"
+
+int printf(const char *format, ...);
+int memcmp(const void *one, const void *other, zaytulobe_size count);
+void *memset(void *to, int value, zaytulobe_size count);
+_Noreturn void exit(int status);
+
+typedef zaytulobe_u8 u8;
+typedef zaytulobe_u16 u16;
+typedef zaytulobe_u32 u32;
+typedef zaytulobe_u64 u64;
+typedef zaytulobe_size size;
+
+enum { CRC12 = 0, FEC = 1, MOST_MULTIBLOCKS = 240, LONGEST_LANE = 1320, LONGEST_CALL = 242 };
+enum { USER_OCTETS = 256, LANE_OCTETS = 264, DATA_BITS = 2048, BLOCK_BITS = 66, MULTIBLOCK_BITS = 2112 };
+enum { UNTOUCHED = 0xEE };
+
+static u8 user[USER_OCTETS * LONGEST_LANE], lane[LANE_OCTETS * LONGEST_LANE];
+static u32 sent_commands[LONGEST_LANE];
+
+/* What the receiver is lent. */
+struct releases {
+    u8 octets[USER_OCTETS * LONGEST_CALL];
+    u8 statuses[LONGEST_CALL];
+    u32 commands[LONGEST_CALL];
+    u16 places[LONGEST_CALL];
+    u16 patterns[LONGEST_CALL];
+};
+
+static inline const char *name_of(u8 mode) {
+    return mode == FEC ? "FEC" : "CRC-12";
+}
+
+static inline void stop(const char *why) {
+    printf("stopped: %s\n", why);
+    exit(1);
+}
+
+/* The lane that a fresh sender makes of the first user octets, so many multiblocks, in calls of at most 240; its end state. */
+static inline struct zaytulobe_sender send_user(u8 mode, u32 e, size multiblocks) {
+    struct zaytulobe_sender state = zaytulobe_fresh_sender();
+    for (size k = 0; k < multiblocks; k++)
+        sent_commands[k] = mode == FEC ? 0 : (u32)(37 * k % 128);
+    for (size start = 0; start < multiblocks; start += MOST_MULTIBLOCKS) {
+        size left = multiblocks - start, count = left < MOST_MULTIBLOCKS ? left : MOST_MULTIBLOCKS;
+        struct zaytulobe_sent sent = zaytulobe_send(
+            mode, e, state, user + USER_OCTETS * start, USER_OCTETS * count, sent_commands + start, count,
+            lane + LANE_OCTETS * start, LANE_OCTETS * count);
+        if (sent.refusal != 0 || sent.count != count)
+            stop("the sender refused");
+        state = sent.state;
+    }
+    return state;
+}
+
+/* Such a lane of user octets without a plan. */
+static inline struct zaytulobe_sender make_lane(u8 mode, u32 e, size multiblocks) {
+    for (size k = 0; k < USER_OCTETS * multiblocks; k++)
+        user[k] = (u8)(k * k / 5 + k / 256);
+    return send_user(mode, e, multiblocks);
+}
+
+static inline u8 lane_bit(size bit) {
+    return lane[bit / 8] >> (7 - bit % 8) & 1;
+}
+
+static inline void flip_bit(size bit) {
+    lane[bit / 8] ^= (u8)(128 >> bit % 8);
+}
+
+/* Where a codeword position stands on the lane: a data bit behind its block's header; a parity bit is carried by both bits of
+   a header of the next multiblock, and this is the first of them. */
+static inline size place_of(u8 mode, size multiblock, size position) {
+    size start = MULTIBLOCK_BITS * multiblock, rank = position - DATA_BITS;
+    if (position < DATA_BITS)
+        return start + BLOCK_BITS * (position / 64) + 2 + position % 64;
+    return start + MULTIBLOCK_BITS + BLOCK_BITS * (mode == FEC ? rank + (rank >= 22) : rank + rank / 3);
+}
+
+/* Flips what a codeword position carries: a data bit, or both bits of a header. */
+static inline void flip_position(u8 mode, size multiblock, size position) {
+    size place = place_of(mode, multiblock, position);
+    flip_bit(place);
+    if (position >= DATA_BITS)
+        flip_bit(place + 1);
+}
+
+/* Receives so many multiblocks of the lane from one on; release 0 of the call goes to place `at` of what is lent. */
+static inline struct zaytulobe_received receive(
+    u8 mode, struct zaytulobe_receiver state, size first, size count, struct releases *to, size at) {
+    size room = LONGEST_CALL - at;
+    return zaytulobe_receive(
+        mode, state, lane + LANE_OCTETS * first, LANE_OCTETS * count, to->octets + USER_OCTETS * at, USER_OCTETS * room,
+        to->statuses + at, room, to->commands + at, room, to->places + at, room, to->patterns + at, room);
+}
+
+static inline void print_span(const char *before, size first, size last) {
+    printf(first == last ? "%s%lu" : last == first + 1 ? "%s%lu, %lu" : "%s%lu to %lu", before, first, last);
+}
+
+/* Which octets of a release differ from those sent in some multiblock. */
+static inline void print_octets(const struct releases *from, size release, size multiblock) {
+    const u8 *come = from->octets + USER_OCTETS * release, *sent = user + USER_OCTETS * multiblock;
+    size wrong = 0;
+    for (size k = 0; k < USER_OCTETS; k++) {
+        size start = k;
+        while (k < USER_OCTETS && come[k] != sent[k])
+            k++;
+        if (k > start)
+            print_span(wrong++ ? ", " : "wrong octets ", start, k - 1);
+    }
+    if (wrong == 0)
+        printf("octets as sent");
+}
+
+static inline void print_release(const struct releases *from, size release, size multiblock) {
+    printf("status %d", from->statuses[release]);
+    if (from->places[release] != 0 || from->patterns[release] != 0)
+        printf(", place %d, pattern %d", from->places[release], from->patterns[release]);
+    printf(", ");
+    print_octets(from, release, multiblock);
+}
+
+#endif

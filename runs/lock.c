@@ -1,0 +1,288 @@
+/* The locks at the edges of their tables and along lanes that the sender made: document 01, "Lock tables" and "Numbers of
+   refusal". A line says what was tried and what came out; lock.txt has the lines expected. */
+#include "lane.h"
+
+enum { INVALID = 0, ONE = 1, ZERO = 2, ALSO_INVALID = 3 };
+enum { HUNTING = 0, FOLLOWING = 1, LOCKED = 2 };
+
+typedef struct zaytulobe_lock locks;
+
+static locks stepped(u8 mode, u32 e, locks state, u8 header) {
+    struct zaytulobe_stepped next = zaytulobe_lock_step(mode, e, state, header);
+    if (next.refusal != 0)
+        stop("the locks refused");
+    return next.lock;
+}
+
+/* The state after one header value some times over. */
+static locks fed(locks state, u8 header, u32 count) {
+    for (u32 k = 0; k < count; k++)
+        state = stepped(CRC12, 1, state, header);
+    return state;
+}
+
+static void print_header(const char *label, locks state) {
+    struct zaytulobe_header_lock header = state.header;
+    printf("%s: %s, offset %u, run %u, bad %u\n", label, header.locked ? "locked" : "hunting", header.offset, header.run, header.bad);
+}
+
+static void run_header(void) {
+    locks fresh = zaytulobe_fresh_lock(), locked = fed(fresh, ONE, 64), worn = fed(locked, INVALID, 15);
+    print_header("header lock, fresh", fresh);
+    print_header("header lock, fresh, 63 valid headers", fed(fresh, ONE, 63));
+    print_header("header lock, fresh, 64 valid headers", fed(fresh, ZERO, 64));
+    print_header("header lock, fresh, 1 invalid header", fed(fresh, INVALID, 1));
+    print_header("header lock, fresh, 65 invalid headers", fed(fresh, ALSO_INVALID, 65));
+    print_header("header lock, fresh, 66 invalid headers", fed(fresh, ALSO_INVALID, 66));
+    print_header("header lock, fresh, 63 valid headers, 1 invalid", fed(fed(fresh, ONE, 63), ALSO_INVALID, 1));
+    print_header("header lock, locked, 15 invalid headers", worn);
+    print_header("header lock, locked, 16 invalid headers", fed(locked, INVALID, 16));
+    print_header("header lock, locked, 15 invalid headers, 63 valid", fed(worn, ONE, 63));
+    print_header("header lock, locked, 15 invalid headers, 63 valid, 1 invalid", fed(fed(worn, ONE, 63), INVALID, 1));
+    print_header("header lock, locked, 15 invalid headers, 64 valid", fed(worn, ONE, 64));
+    print_header("header lock, locked, 15 invalid headers, 64 valid, 1 invalid", fed(fed(worn, ONE, 64), INVALID, 1));
+    print_header("header lock, at offset 5, 64 valid headers, 16 invalid", fed(fed(fed(fresh, INVALID, 5), ONE, 64), INVALID, 16));
+}
+
+static u8 header_at(size bit) {
+    return (u8)(2 * lane_bit(bit) + lane_bit(bit + 1));
+}
+
+static int both_held(locks state) {
+    return state.header.locked == 1 && state.extended.phase == LOCKED;
+}
+
+/* After how many blocks of the lane, from one of its blocks on, both locks are first held; 0 if not within so many. */
+static size both_after(u8 mode, u32 e, size from, size most) {
+    locks state = zaytulobe_fresh_lock();
+    for (size k = 0; k < most; k++) {
+        state = stepped(mode, e, state, header_at(BLOCK_BITS * (from + k)));
+        if (both_held(state))
+            return k + 1;
+    }
+    return 0;
+}
+
+static void print_start(u8 mode, u32 e, size from) {
+    size bound = 95 + 128 * e, after = both_after(mode, e, from, bound);
+    printf("  begun at block %lu of an extended multiblock: both locks ", from);
+    printf(after ? "first held after %lu blocks\n" : "not held within %lu blocks\n", after ? after : bound);
+}
+
+/* From every so many blocks of the first extended multiblock. The block 95 before its end is among them: one block too few
+   for header lock and 32 headers more, so that this end is missed, and the wait is the longest. */
+static void print_range(u8 mode, u32 e, size step) {
+    size bound = 95 + 128 * e, blocks = 32 * e, least = bound, most = 0, held = 0, count = 0;
+    for (size from = (3 * blocks - 95) % blocks % step; from < blocks; from += step, count++) {
+        size after = both_after(mode, e, from, bound);
+        held += after != 0;
+        least = after != 0 && after < least ? after : least;
+        most = after > most ? after : most;
+    }
+    printf("  begun at each of %lu blocks: both locks held within 95+128E = %lu blocks from %lu of them", count, bound, held);
+    printf(held ? ", first after %lu to %lu\n" : "\n", least, most);
+}
+
+enum { STARTS = 5 };
+
+static void run_starts(u8 mode, u32 e, const size starts[STARTS], size step) {
+    for (size k = 0; k < STARTS; k++)
+        print_start(mode, e, starts[k]);
+    print_range(mode, e, step);
+}
+
+/* Lanes of user octets without a plan, and with FEC also of zeros, whose parity is 0 throughout. */
+static void run_lanes(u32 e, const size starts[STARTS], size step) {
+    size multiblocks = (160 * e + 95) / 32 + 1;
+    make_lane(CRC12, e, multiblocks);
+    printf("CRC-12, E %u, a lane of various octets:\n", e);
+    run_starts(CRC12, e, starts, step);
+    make_lane(FEC, e, multiblocks);
+    printf("FEC, E %u, a lane of various octets, whose parity may look like an end mark:\n", e);
+    run_starts(FEC, e, starts, step);
+    memset(user, 0, sizeof user);
+    send_user(FEC, e, multiblocks);
+    printf("FEC, E %u, a lane of zero octets, whose parity is 0:\n", e);
+    run_starts(FEC, e, starts, step);
+}
+
+static void run_all_lanes(void) {
+    static const size one[STARTS] = {0, 1, 2, 16, 31}, two[STARTS] = {0, 32, 33, 34, 63}, many[STARTS] = {0, 4096, 8096, 8097, 8098};
+    run_lanes(1, one, 1);
+    run_lanes(2, two, 1);
+    run_lanes(256, many, 63);
+}
+
+/* The header is read where the offset says: an invalid one moves it on. */
+static void run_slips(u8 mode, size from) {
+    locks state = zaytulobe_fresh_lock();
+    size blocks = 0;
+    make_lane(mode, 1, 240);
+    for (; !state.header.locked && blocks < 7000; blocks++)
+        state = stepped(mode, 1, state, header_at(from + state.header.offset + BLOCK_BITS * blocks));
+    printf("%s, a lane read from its bit %lu on: header lock %s, offset %u\n", name_of(mode), from,
+        state.header.locked ? "held" : "NOT HELD", state.header.offset);
+}
+
+static void print_extended(const char *label, locks state) {
+    static const char *const phases[] = {"hunting", "following", "locked"};
+    struct zaytulobe_extended_lock extended = state.extended;
+    printf("  %s: %s, seen %u, good %u, bad %u, next look in %u\n", label, phases[extended.phase], extended.seen, extended.good,
+        extended.bad, extended.next);
+}
+
+/* So many multiblocks, each with the end mark or without it. */
+static locks fed_words(u32 e, locks state, size count, int mark) {
+    u32 word = mark ? 0x11111701 : 0x11111501;
+    for (size k = 0; k < 32 * count; k++)
+        state = stepped(CRC12, e, state, word >> (31 - k % 32) & 1 ? ONE : ZERO);
+    return state;
+}
+
+static void run_extended(void) {
+    locks fresh = zaytulobe_fresh_lock(), held = fed_words(1, fresh, 2, 1), three = fed_words(1, held, 3, 1);
+    locks locked = fed_words(1, held, 4, 1), worn = fed_words(1, locked, 7, 0);
+    printf("Extended lock, CRC-12, E 1, multiblocks with all fields 0:\n");
+    print_extended("2 with the end mark, which give header lock", held);
+    print_extended("then 1 without", fed_words(1, held, 1, 0));
+    print_extended("then 1 with", fed_words(1, held, 1, 1));
+    print_extended("then 3 with", three);
+    print_extended("then 3 with, 1 without", fed_words(1, three, 1, 0));
+    print_extended("then 4 with", locked);
+    print_extended("then 4 with, 7 without", worn);
+    print_extended("then 4 with, 7 without, 1 with", fed_words(1, worn, 1, 1));
+    print_extended("then 4 with, 8 without", fed_words(1, worn, 1, 0));
+    print_extended("then 4 with, 15 invalid headers", fed(locked, INVALID, 15));
+    print_extended("then 4 with, 16 invalid headers", fed(locked, INVALID, 16));
+    printf("Extended lock, CRC-12, E 2, multiblocks with all fields 0:\n");
+    held = fed_words(2, fresh, 3, 1);
+    print_extended("3 with the end mark", held);
+    print_extended("then 6 with, of which every other is ignored", fed_words(2, held, 6, 1));
+    print_extended("then 1 without, which is ignored", fed_words(2, held, 1, 0));
+    print_extended("then 2 without", fed_words(2, held, 2, 0));
+}
+
+static int same_locks(locks one, locks other) {
+    return memcmp(&one, &other, sizeof one) == 0;
+}
+
+static void try_step(const char *label, u8 mode, u32 e, locks state, u8 header) {
+    struct zaytulobe_stepped next = zaytulobe_lock_step(mode, e, state, header);
+    printf("%s: ", label);
+    if (next.refusal == 0)
+        printf("accepted\n");
+    else
+        printf("refused %d, %s\n", next.refusal, same_locks(next.lock, state) ? "the state given" : "ANOTHER STATE");
+}
+
+static void run_calls(void) {
+    locks fresh = zaytulobe_fresh_lock(), broken = {.header = {.offset = 66}};
+    try_step("mode 0", 0, 1, fresh, 1);
+    try_step("mode 1", 1, 1, fresh, 1);
+    try_step("mode 2", 2, 1, fresh, 1);
+    try_step("E 0", 0, 0, fresh, 1);
+    try_step("E 1", 0, 1, fresh, 1);
+    try_step("E 256", 0, 256, fresh, 1);
+    try_step("E 257", 0, 257, fresh, 1);
+    try_step("header 0", 0, 1, fresh, 0);
+    try_step("header 3", 0, 1, fresh, 3);
+    try_step("header 4", 0, 1, fresh, 4);
+    try_step("header 255", 0, 1, fresh, 255);
+    try_step("mode 2 and E 0", 2, 0, fresh, 1);
+    try_step("E 0 and offset 66", 0, 0, broken, 1);
+    try_step("offset 66 and header 4", 0, 1, broken, 4);
+    try_step("mode 2, E 0, offset 66 and header 4", 2, 0, broken, 4);
+}
+
+static void try_header(const char *label, u32 locked, u32 offset, u32 run, u32 bad) {
+    locks state = {.header = {locked, offset, run, bad}};
+    try_step(label, CRC12, 1, state, 1);
+}
+
+static void run_header_states(void) {
+    try_header("header lock hunting, offset 65", 0, 65, 0, 0);
+    try_header("header lock hunting, offset 66", 0, 66, 0, 0);
+    try_header("header lock hunting, run 63", 0, 0, 63, 0);
+    try_header("header lock hunting, run 64", 0, 0, 64, 0);
+    try_header("header lock hunting, bad 1", 0, 0, 0, 1);
+    try_header("header lock locked, offset 65", 1, 65, 0, 0);
+    try_header("header lock locked, offset 66", 1, 66, 0, 0);
+    try_header("header lock locked, run 63", 1, 0, 63, 0);
+    try_header("header lock locked, run 64", 1, 0, 64, 0);
+    try_header("header lock locked, bad 15", 1, 0, 0, 15);
+    try_header("header lock locked, bad 16", 1, 0, 0, 16);
+    try_header("header lock given as 2", 2, 0, 0, 0);
+}
+
+static void try_extended(const char *label, u32 e, u32 locked, struct zaytulobe_extended_lock extended) {
+    locks state = {{.locked = locked}, extended};
+    try_step(label, CRC12, e, state, 1);
+}
+
+static void try_hunting(const char *label, u32 locked, u32 seen, u32 headers, u32 good, u32 bad, u32 next) {
+    struct zaytulobe_extended_lock extended = {HUNTING, seen, headers, good, bad, next};
+    try_extended(label, 1, locked, extended);
+}
+
+static void run_hunting_states(void) {
+    try_hunting("header lock hunting, seen 1", 0, 1, 0, 0, 0, 0);
+    try_hunting("header lock hunting, headers 1", 0, 0, 1, 0, 0, 0);
+    try_hunting("extended lock hunting, seen 32, all of them 1", 1, 32, 0xffffffff, 0, 0, 0);
+    try_hunting("extended lock hunting, seen 33", 1, 33, 0, 0, 0, 0);
+    try_hunting("extended lock hunting, seen 31, headers 2^31 - 1", 1, 31, 0x7fffffff, 0, 0, 0);
+    try_hunting("extended lock hunting, seen 31, headers 2^31", 1, 31, 0x80000000, 0, 0, 0);
+    try_hunting("extended lock hunting, seen 0, headers 1", 1, 0, 1, 0, 0, 0);
+    try_hunting("extended lock hunting, good 1", 1, 32, 0, 1, 0, 0);
+    try_hunting("extended lock hunting, bad 1", 1, 32, 0, 0, 1, 0);
+    try_hunting("extended lock hunting, next look in 1", 1, 32, 0, 0, 0, 1);
+}
+
+static void try_looking(const char *label, u32 phase, u32 e, u32 good, u32 bad, u32 next) {
+    struct zaytulobe_extended_lock extended = {phase, 32, 0, good, bad, next};
+    try_extended(label, e, 1, extended);
+}
+
+static void run_following_states(void) {
+    struct zaytulobe_extended_lock bare = {FOLLOWING, 0, 0, 1, 0, 1};
+    try_extended("header lock hunting, extended lock following", 1, 0, bare);
+    try_extended("extended lock following, seen 0", 1, 1, bare);
+    try_looking("extended lock following, good 0", FOLLOWING, 1, 0, 0, 1);
+    try_looking("extended lock following, good 1", FOLLOWING, 1, 1, 0, 1);
+    try_looking("extended lock following, good 3", FOLLOWING, 1, 3, 0, 1);
+    try_looking("extended lock following, good 4", FOLLOWING, 1, 4, 0, 1);
+    try_looking("extended lock following, bad 1", FOLLOWING, 1, 1, 1, 1);
+    try_looking("extended lock following, next look in 0", FOLLOWING, 1, 1, 0, 0);
+    try_looking("extended lock following, E 1, next look in 32", FOLLOWING, 1, 1, 0, 32);
+    try_looking("extended lock following, E 1, next look in 33", FOLLOWING, 1, 1, 0, 33);
+    try_looking("extended lock following, E 2, next look in 64", FOLLOWING, 2, 1, 0, 64);
+    try_looking("extended lock following, E 2, next look in 65", FOLLOWING, 2, 1, 0, 65);
+}
+
+static void run_locked_states(void) {
+    struct zaytulobe_extended_lock bare = {LOCKED, 0, 0, 0, 0, 1};
+    try_extended("header lock hunting, extended lock locked", 1, 0, bare);
+    try_looking("extended lock locked, good 1", LOCKED, 1, 1, 0, 1);
+    try_looking("extended lock locked, bad 7", LOCKED, 1, 0, 7, 1);
+    try_looking("extended lock locked, bad 8", LOCKED, 1, 0, 8, 1);
+    try_looking("extended lock locked, next look in 0", LOCKED, 1, 0, 0, 0);
+    try_looking("extended lock locked, E 1, next look in 32", LOCKED, 1, 0, 0, 32);
+    try_looking("extended lock locked, E 1, next look in 33", LOCKED, 1, 0, 0, 33);
+    try_looking("extended lock locked, E 256, next look in 8192", LOCKED, 256, 0, 0, 8192);
+    try_looking("extended lock locked, E 256, next look in 8193", LOCKED, 256, 0, 0, 8193);
+    try_looking("extended lock given as 3", 3, 1, 0, 0, 1);
+}
+
+int main(void) {
+    run_header();
+    run_slips(CRC12, 0);
+    run_slips(CRC12, 1);
+    run_slips(FEC, 40);
+    run_all_lanes();
+    run_extended();
+    run_calls();
+    run_header_states();
+    run_hunting_states();
+    run_following_states();
+    run_locked_states();
+    return 0;
+}

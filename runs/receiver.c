@@ -1,0 +1,303 @@
+/* The receiver at its edges, and the longest run: document 01, "What the receiver releases", "Numbers of refusal" and the
+   last lines of "The dozen to prove". A line says what was tried and what came out (place and pattern where not both are 0);
+   receiver.txt has the lines expected. */
+#include "lane.h"
+
+static struct releases out, parts;
+
+/* Multiblock 2 of a lane, from a fresh receiver at the lane's start, with some positions of its codeword flipped. */
+static void try_flips(u8 mode, const char *label, size first, size count, size step) {
+    make_lane(mode, 2, 5);
+    for (size k = 0; k < count; k++)
+        flip_position(mode, 2, first + step * k);
+    memset(&out, UNTOUCHED, sizeof out);
+    receive(mode, zaytulobe_fresh_receiver(), 0, 5, &out, 0);
+    printf("  %s: ", label);
+    print_release(&out, 2, 2);
+    printf("; the next: ");
+    print_release(&out, 3, 3);
+    printf("\n");
+}
+
+static void run_bursts_fec(void) {
+    printf("FEC, a multiblock with flips at positions of its codeword:\n");
+    try_flips(FEC, "none", 0, 0, 1);
+    try_flips(FEC, "0 to 8", 0, 9, 1);
+    try_flips(FEC, "2065 to 2073, all parity", 2065, 9, 1);
+    try_flips(FEC, "0 and 8", 0, 2, 8);
+    try_flips(FEC, "2065 and 2073, both parity", 2065, 2, 8);
+    try_flips(FEC, "0 to 9", 0, 10, 1);
+    try_flips(FEC, "2064 to 2073, all parity", 2064, 10, 1);
+    try_flips(FEC, "0 and 9", 0, 2, 9);
+    try_flips(FEC, "2064 and 2073, both parity", 2064, 2, 9);
+    try_flips(FEC, "2047, the last of the data", 2047, 1, 1);
+    try_flips(FEC, "2048, the first of the parity", 2048, 1, 1);
+    try_flips(FEC, "2044 to 2052, data and parity", 2044, 9, 1);
+    try_flips(FEC, "0 and 2073, since no burst wraps", 0, 2, 2073);
+}
+
+static void run_bursts_crc12(void) {
+    printf("CRC-12, a multiblock with flips at positions of its codeword:\n");
+    try_flips(CRC12, "none", 0, 0, 1);
+    try_flips(CRC12, "0 to 8", 0, 9, 1);
+    try_flips(CRC12, "2051 to 2059, all parity", 2051, 9, 1);
+    try_flips(CRC12, "0 to 9", 0, 10, 1);
+    try_flips(CRC12, "2050 to 2059, all parity", 2050, 10, 1);
+    try_flips(CRC12, "2047, the last of the data", 2047, 1, 1);
+}
+
+static int same_state(struct zaytulobe_receiver one, struct zaytulobe_receiver other) {
+    return one.history == other.history && one.command == other.command && one.waiting == other.waiting
+        && one.trusted == other.trusted && memcmp(one.octets, other.octets, USER_OCTETS) == 0;
+}
+
+/* A call with all that a caller chooses: the mode, the state, where the lane begins, and each length. */
+struct call {
+    u8 mode;
+    struct zaytulobe_receiver state;
+    const u8 *from;
+    size lane, octets, statuses, commands, places, patterns;
+};
+
+/* So many multiblocks, with just enough room: from the lane's start, or from its multiblock 1 on if one waits. */
+static struct call call_of(u8 mode, struct zaytulobe_receiver state, size multiblocks) {
+    size count = state.waiting ? multiblocks : multiblocks ? multiblocks - 1 : 0;
+    const u8 *from = state.waiting ? lane + LANE_OCTETS : lane;
+    struct call call = {mode, state, from, LANE_OCTETS * multiblocks, USER_OCTETS * count, count, count, count, count};
+    return call;
+}
+
+static int untouched_from(size count) {
+    for (size k = USER_OCTETS * count; k < sizeof out.octets; k++)
+        if (out.octets[k] != UNTOUCHED)
+            return 0;
+    for (size k = count; k < LONGEST_CALL; k++)
+        if (out.statuses[k] != UNTOUCHED || out.commands[k] != UNTOUCHED * 0x1010101u
+            || out.places[k] != UNTOUCHED * 0x101 || out.patterns[k] != UNTOUCHED * 0x101)
+            return 0;
+    return 1;
+}
+
+static struct zaytulobe_receiver try_call(const char *label, struct call call) {
+    memset(&out, UNTOUCHED, sizeof out);
+    struct zaytulobe_received received = zaytulobe_receive(
+        call.mode, call.state, call.from, call.lane, out.octets, call.octets, out.statuses, call.statuses,
+        out.commands, call.commands, out.places, call.places, out.patterns, call.patterns);
+    printf("%s: ", label);
+    printf(received.refusal ? "refused %d, " : "accepted, ", received.refusal);
+    printf("count %lu, ", received.count);
+    printf(same_state(received.state, call.state) ? "the state given, " : "a new state, ");
+    printf(!untouched_from(received.count) ? "MORE WRITTEN\n" : received.count ? "no more written\n" : "nothing written\n");
+    return received.state;
+}
+
+/* How many releases have the octets, the status and the command of a clean lane. */
+static void print_clean(size count) {
+    size clean = 0;
+    for (size k = 0; k < count; k++)
+        clean += memcmp(out.octets + USER_OCTETS * k, user + USER_OCTETS * k, USER_OCTETS) == 0
+            && out.commands[k] == sent_commands[k] && out.statuses[k] == (k == 0 ? 4 : 0)
+            && out.places[k] == 0 && out.patterns[k] == 0;
+    printf("  octets and command as sent, status 4 of the first and 0 of the others: %lu of %lu\n", clean, count);
+}
+
+static void run_counts(u8 mode) {
+    struct zaytulobe_receiver fresh = zaytulobe_fresh_receiver();
+    make_lane(mode, 7, 242);
+    printf("%s, a clean lane:\n", name_of(mode));
+    try_call("0 multiblocks, fresh", call_of(mode, fresh, 0));
+    struct zaytulobe_receiver waiting = try_call("1 multiblock, fresh", call_of(mode, fresh, 1));
+    try_call("2 multiblocks, fresh", call_of(mode, fresh, 2));
+    print_clean(1);
+    try_call("240 multiblocks, fresh", call_of(mode, fresh, 240));
+    print_clean(239);
+    try_call("241 multiblocks, fresh", call_of(mode, fresh, 241));
+    try_call("0 multiblocks, one waiting", call_of(mode, waiting, 0));
+    try_call("1 multiblock, one waiting", call_of(mode, waiting, 1));
+    print_clean(1);
+    try_call("240 multiblocks, one waiting", call_of(mode, waiting, 240));
+    print_clean(240);
+    try_call("241 multiblocks, one waiting", call_of(mode, waiting, 241));
+}
+
+static void run_modes(void) {
+    struct zaytulobe_receiver fresh = zaytulobe_fresh_receiver();
+    try_call("mode 0", call_of(0, fresh, 2));
+    try_call("mode 1", call_of(1, fresh, 2));
+    try_call("mode 2", call_of(2, fresh, 2));
+    try_call("mode 255", call_of(255, fresh, 2));
+}
+
+/* A state with one waiting, all else as it is in a fresh one but for what is given. */
+static void try_waiting(const char *label, u8 mode, u64 history, u32 command, u8 trusted) {
+    struct zaytulobe_receiver state = zaytulobe_fresh_receiver();
+    state.waiting = 1;
+    state.history = history;
+    state.command = command;
+    state.trusted = trusted;
+    try_call(label, call_of(mode, state, 1));
+}
+
+static void run_waiting_states(void) {
+    u64 most = 0x3ffffffffffffff;
+    try_waiting("CRC-12, one waiting, history 2^58 - 1", CRC12, most, 0, 0);
+    try_waiting("CRC-12, one waiting, history 2^58", CRC12, most + 1, 0, 0);
+    try_waiting("FEC, one waiting, history 2^58 - 1", FEC, most, 0, 0);
+    try_waiting("FEC, one waiting, history 2^58", FEC, most + 1, 0, 0);
+    try_waiting("CRC-12, one waiting, command 128", CRC12, 0, 128, 1);
+    try_waiting("CRC-12, one waiting, command 255", CRC12, 0, 255, 1);
+    try_waiting("CRC-12, one waiting, command 256", CRC12, 0, 256, 1);
+    try_waiting("FEC, one waiting, command 0", FEC, 0, 0, 1);
+    try_waiting("FEC, one waiting, command 1", FEC, 0, 1, 1);
+    try_waiting("FEC, one waiting, command 128", FEC, 0, 128, 1);
+    try_waiting("FEC, one waiting, trust given as 2", FEC, 0, 0, 2);
+}
+
+static void run_empty_states(void) {
+    struct zaytulobe_receiver history = {.history = 1}, command = {.command = 1}, trusted = {.trusted = 1};
+    struct zaytulobe_receiver first = {.octets = {1}}, last = {.octets = {[255] = 1}}, flag = {.waiting = 2};
+    try_call("nothing waiting, all else 0", call_of(CRC12, zaytulobe_fresh_receiver(), 1));
+    try_call("nothing waiting, history 1", call_of(CRC12, history, 1));
+    try_call("nothing waiting, command 1", call_of(CRC12, command, 1));
+    try_call("nothing waiting, trusted", call_of(CRC12, trusted, 1));
+    try_call("nothing waiting, octet 0 not 0", call_of(CRC12, first, 1));
+    try_call("nothing waiting, octet 255 not 0", call_of(CRC12, last, 1));
+    try_call("nothing waiting, trusted, no lane octets", call_of(CRC12, trusted, 0));
+    try_call("waiting given as 2", call_of(CRC12, flag, 1));
+}
+
+static void run_lengths(void) {
+    struct call call = call_of(FEC, zaytulobe_fresh_receiver(), 2);
+    call.lane = 263;
+    try_call("263 lane octets", call);
+    call.lane = 264;
+    try_call("264 lane octets", call);
+    call.lane = 265;
+    try_call("265 lane octets", call);
+    call.lane = 1;
+    try_call("1 lane octet", call);
+}
+
+static void run_room(void) {
+    struct call call = call_of(FEC, zaytulobe_fresh_receiver(), 3), full = call;
+    try_call("3 multiblocks, fresh, room for 2", call);
+    call.octets -= 1;
+    try_call("3 multiblocks, fresh, 511 octets of room", call);
+    call = full, call.octets += 1;
+    try_call("3 multiblocks, fresh, 513 octets of room", call);
+    call = full, call.statuses -= 1;
+    try_call("3 multiblocks, fresh, room for 1 status", call);
+    call = full, call.commands -= 1;
+    try_call("3 multiblocks, fresh, room for 1 command", call);
+    call = full, call.places -= 1;
+    try_call("3 multiblocks, fresh, room for 1 place", call);
+    call = full, call.patterns -= 1;
+    try_call("3 multiblocks, fresh, room for 1 pattern", call);
+    call = full, call.statuses += 1, call.commands += 2, call.places += 3, call.patterns += 4;
+    try_call("3 multiblocks, fresh, more room in each list", call);
+    try_call("1 multiblock, fresh, no room", call_of(FEC, zaytulobe_fresh_receiver(), 1));
+}
+
+/* The lower number of two that apply. */
+static void run_two_at_once(void) {
+    struct zaytulobe_receiver fresh = zaytulobe_fresh_receiver(), broken = {.history = 1};
+    struct call call = call_of(2, broken, 1);
+    try_call("mode 2 and a broken state", call);
+    call = call_of(FEC, broken, 1), call.lane = 263;
+    try_call("a broken state and 263 lane octets", call);
+    call = call_of(FEC, fresh, 241), call.lane += 1;
+    try_call("a lane of one octet more than 241 multiblocks", call);
+    call = call_of(FEC, fresh, 241), call.octets = 0;
+    try_call("241 multiblocks and no room for octets", call);
+    call = call_of(FEC, fresh, 2), call.lane += 1, call.statuses = 0;
+    try_call("a lane of one octet more than 2 multiblocks and no room for statuses", call);
+    call = call_of(2, broken, 241), call.lane += 1, call.octets = 0;
+    try_call("all five", call);
+}
+
+/* A lane with a burst that is mended or found, one that isn't, an invalid header in a command and one elsewhere. */
+static void make_damaged(u8 mode, size multiblocks) {
+    make_lane(mode, 3, multiblocks);
+    for (size k = 0; k < 5; k++)
+        flip_position(mode, 1, 700 + 2 * k);
+    for (size k = 0; k < 9; k++)
+        flip_position(mode, 3, 2039 + k);
+    flip_position(mode, 4, 100);
+    flip_position(mode, 4, 1900);
+    flip_bit(MULTIBLOCK_BITS * 5 + BLOCK_BITS * 17);
+    flip_bit(MULTIBLOCK_BITS * 6 + BLOCK_BITS * 31);
+}
+
+static void run_cuts(u8 mode, size multiblocks) {
+    make_damaged(mode, multiblocks);
+    memset(&out, UNTOUCHED, sizeof out);
+    struct zaytulobe_received whole = receive(mode, zaytulobe_fresh_receiver(), 0, multiblocks, &out, 0);
+    printf("%s, %lu damaged multiblocks in one call: released %lu, statuses", name_of(mode), multiblocks, whole.count);
+    for (size k = 0; k < whole.count; k++)
+        printf(" %d", out.statuses[k]);
+    printf(", commands");
+    for (size k = 0; k < whole.count; k++)
+        printf(" %u", out.commands[k]);
+    printf("\n");
+    for (size cut = 0; cut <= multiblocks; cut++) {
+        memset(&parts, UNTOUCHED, sizeof parts);
+        struct zaytulobe_received head = receive(mode, zaytulobe_fresh_receiver(), 0, cut, &parts, 0);
+        struct zaytulobe_received tail = receive(mode, head.state, cut, multiblocks - cut, &parts, head.count);
+        int same = memcmp(&out, &parts, sizeof out) == 0 && same_state(whole.state, tail.state);
+        printf("cut after %lu: released %lu, then %lu; %s\n", cut, head.count, tail.count,
+            same ? "the same releases and end state" : "OTHER RELEASES OR END STATE");
+    }
+}
+
+/* Statuses as a text of numbers of one digit; '?' stands for 255. */
+static void try_statuses(const char *statuses, size octets) {
+    u8 list[16];
+    size count = 0;
+    printf("longest run of statuses");
+    for (; statuses[count] != 0; count++) {
+        list[count] = statuses[count] == '?' ? 255 : (u8)(statuses[count] - '0');
+        printf(" %d", list[count]);
+    }
+    printf("%s with %lu octets: ", count ? "" : " none", octets);
+    struct zaytulobe_run run = zaytulobe_longest_run(user, octets, list, count);
+    if (run.refusal != 0)
+        printf("refused %d, ", run.refusal);
+    printf("%lu from multiblock %lu\n", run.count, run.start);
+}
+
+static void run_longest(void) {
+    try_statuses("", 0);
+    try_statuses("0", 256);
+    try_statuses("1", 256);
+    try_statuses("2", 256);
+    try_statuses("4256", 1024);
+    try_statuses("4012104", 1792);
+    try_statuses("0021110", 1792);
+    try_statuses("0140102", 1792);
+    try_statuses("0101", 1024);
+    try_statuses("030070", 1536);
+    try_statuses("00?000", 1536);
+    try_statuses("00", 511);
+    try_statuses("00", 512);
+    try_statuses("00", 513);
+    try_statuses("00", 256);
+    try_statuses("", 256);
+    try_statuses("0", 0);
+}
+
+int main(void) {
+    run_bursts_fec();
+    run_bursts_crc12();
+    run_counts(CRC12);
+    run_counts(FEC);
+    run_modes();
+    run_waiting_states();
+    run_empty_states();
+    run_lengths();
+    run_room();
+    run_two_at_once();
+    run_cuts(CRC12, 8);
+    run_cuts(FEC, 8);
+    run_longest();
+    return 0;
+}
