@@ -3,7 +3,7 @@
 use mathlib.Core.Path.{_≡_, refl, sym, ap, ap₂, _∙_, subst, fun-ext}
 use mathlib.Core.List.{List, [], _∷_, _++_}
 use Prim.Native.Nat.{ℕ, suc, _+_, _-_, _*_, _<_, _≤_}
-use native.Mathlib.Nat.{mul-add}
+use native.Mathlib.Nat.{mul-zero, mul-add}
 use native.Mathlib.Omega.{arith}
 use lib.ListN.{length, take, length-append}
 use Rattle.bits.specs.Order.{bitAt, laid}
@@ -28,6 +28,10 @@ use Rattle.demands.specs.Calls.{Sending, sending, userOctets, AllSent, l
 use Rattle.demands.proofs.Wrong.{Bits}
 
 -- ---- one lane
+
+empty : (l : List ℕ) → length l ≡ 0 → l ≡ []
+empty [] e = refl
+empty (x ∷ l) e = absurd (omega arith)
 
 abbrev pub allCommands : List Sending → List ℕ
 allCommands [] = []
@@ -71,7 +75,7 @@ module _ (mode E : ℕ) where
     }
 
   pub one-lane : (s : Sender) (calls : List Sending) → AllSent mode E s calls → OneLane s calls
-  one-lane s [] h = record { made = unfold lane in refl; given = refl; ready = λ l. absurd (omega arith) }
+  one-lane s [] h = record { made = sym (empty (lane R E s [] []) (lane-length R E s [] [] ∙ mul-zero (laneOctets (R .gap)))); given = refl; ready = λ l. absurd (omega arith) }
   one-lane s (c ∷ calls) h = with-call s c (h .0) calls (one-lane (sending mode E s c .answer .state) calls (h .1))
 
 -- ---- what the multiblocks of a lane carry, from one of them on

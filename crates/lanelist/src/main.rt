@@ -3,6 +3,7 @@ ghost use mathlib.Core.Path.{_≡_};
 ghost use Prim.Native.Nat.{_≤_};
 ghost use lib.ListN.{length};
 ghost use Rattle.capture.specs.Form.{refusalOf};
+ghost use Rattle.capture.specs.Listing.{done, listed};
 use capture::Listed;
 use libc::STDIN_FILENO;
 use libc::STDOUT_FILENO;
@@ -10,7 +11,8 @@ use libc::STDOUT_FILENO;
 // A header line has at most 18 octets, and each of at most 239 lines at most 15: where there is room for 3,603, none is refused by 7.
 fn list(octets: &[u8], text: &mut [u8]) -> Listed
     requires { ⌜ length (now text) ≡ 3603 ⌝ }
-    ensures { λ r. ⌜ (r .refusal ≡ refusalOf (now (octets .entry))) × (r .count ≤ length (now (text .exit))) ⌝ }
+    ensures { λ r. ⌜ (r .refusal ≡ refusalOf (now (octets .entry))) × (r .count ≤ length (now (text .exit)))
+        × (done r (now (text .exit)) ≡ listed (now (octets .entry)) (now (text .entry))) ⌝ }
 {
     capture::listing(octets, text)
 }

@@ -19,7 +19,7 @@ returns : tie.Need-returns
 returns c =
     let e = c .before .before .listing .ensures in
     let room = c .before .before .before .before .before .before .pre in
-    (refused-as _ _ _ _ e (omega (arith, room)), count-within-after _ _ _ _ e)
+    (refused-as _ _ _ _ e (omega (arith, room)), count-within-after _ _ _ _ e, e)
 
 pub list-spec : {M : Type 1} → statement M
 list-spec = tie.close (tie.spec listing-requires same-length returns)
