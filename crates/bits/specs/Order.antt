@@ -36,6 +36,18 @@ digits (suc n) v = v / 2 ^ n % 2 ∷ digits n v
 unfoldable pub octetsOf : (ℕ → ℕ) → ℕ → List ℕ
 octetsOf f n = run (λ j. number f (8 * j) 8) 0 n
 
+-- bit k of some words of 64 bits, the highest first; 0 past their end
+unfoldable pub wordBit : List ℕ → ℕ → ℕ
+wordBit words k = digit 64 (getD words (k / 64) 0) (k % 64)
+
+-- n words of 64 bits made of a stream's bits
+unfoldable pub wordsOf : (ℕ → ℕ) → ℕ → List ℕ
+wordsOf f n = run (λ i. number f (64 * i) 64) 0 n
+
+-- the octets that some words of 64 bits hold
+unfoldable pub octetsIn : List ℕ → List ℕ
+octetsIn words = octetsOf (wordBit words) (8 * length words)
+
 -- a list laid over the start of another, which keeps the rest
 unfoldable pub laid : List ℕ → List ℕ → List ℕ
 laid new old = new ++ drop (length new) old
