@@ -20,6 +20,11 @@ module _ (n : ℕ) (given : List ℕ) (m : ℕ) (lent : List ℕ) where
   unfolding refusalOf
   few-given h = pick-true (ltb (length given) n) _ _ (lt→ltb (length given) n h)
 
+  -- where enough is given, only the part lent decides
+  pub by-lent : n ≤ length given → refusalOf n given m lent ≡ pick (ltb (length lent) m) 7 0
+  unfolding refusalOf
+  by-lent g = pick-false (ltb (length given) n) _ _ (enough given n g)
+
   pub few-lent : n ≤ length given → length lent < m → refusalOf n given m lent ≡ 7
   unfolding refusalOf
   few-lent g h = pick-false (ltb (length given) n) _ _ (enough given n g) ∙ pick-true (ltb (length lent) m) _ _ (lt→ltb (length lent) m h)

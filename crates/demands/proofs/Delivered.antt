@@ -25,12 +25,12 @@ use Rattle.frame.specs.Lane.{laneOctets, dataPlace, dataOctets}
 use Rattle.frame.proofs.SyncWord.{Stands}
 use Rattle.frame.proofs.Places.{data-is, data-octets-bit}
 use Rattle.receiver.specs.declared.Receiver.{Receiver}
-use Rattle.receiver.specs.declared.Verdict.{Verdict}
-use Rattle.receiver.specs.Judge.{agrees, failed, judged, mended, marked, trustedAfter}
+use Rattle.judge.specs.declared.Verdict.{Verdict}
+use Rattle.judge.specs.Judge.{agrees, failed, judged, mended, marked, trustedAfter}
 use Rattle.receiver.specs.Release.{releaseAt}
-use Rattle.receiver.specs.Sound.{sound}
+use Rattle.judge.specs.Sound.{sound}
 use Rattle.receiver.proofs.Numbered.{waiting, verdict, whole, verdict-is, whole-is, octets-are, status-is, first-trusted, next-history, next-trusted}
-use Rattle.receiver.proofs.Judging.{judged-sound, judged-failed, judged-burst, mended-bit, mended-none, marked-trusted, marked-untrusted, trusted-after, untrusted-after, Believed, believed}
+use Rattle.judge.proofs.Judging.{judged-sound, judged-failed, judged-burst, mended-bit, mended-none, marked-trusted, marked-untrusted, trusted-after, untrusted-after, Believed, believed}
 use Rattle.demands.specs.Damage.{Pairwise}
 use Rattle.demands.proofs.Wrong as W
 use Rattle.demands.proofs.Sent.{Sends}

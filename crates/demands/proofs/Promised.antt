@@ -11,7 +11,7 @@ use Rattle.parity.proofs.Bursts.{one-burst}
 use Rattle.parity.proofs.Sets.{one-set}
 use Rattle.frame.proofs.Sizes.{row-octets}
 use Rattle.frame.proofs.Dozen.{all-right}
-use Rattle.receiver.specs.Sound.{sound}
+use Rattle.judge.specs.Sound.{sound}
 use Rattle.demands.specs.Transfer.{Transfer, flips, DamagedBy, Untouched, releases, released, status, given}
 use Rattle.demands.specs.Promises.{FecDelivers, CrcTellsHits, CrcSoundTrue, CrcUntouchedSound, BurstsByPairs, OneBurst, OneSet, LocksInTime, DozenRight}
 use Rattle.demands.proofs.Pairs.{pairs, in-bursts}

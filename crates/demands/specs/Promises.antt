@@ -12,7 +12,7 @@ use Rattle.frame.specs.Modes.{row}
 use Rattle.frame.specs.Lane.{dataPlace, headerAt}
 use Rattle.frame.specs.Dozen.{Case, found, wanted, dozen}
 use Rattle.sender.specs.declared.Sender.{Sender}
-use Rattle.receiver.specs.Sound.{sound}
+use Rattle.judge.specs.Sound.{sound}
 use Rattle.lock.specs.Run.{ran}
 use Rattle.lock.specs.Stream.{Held}
 use Rattle.demands.specs.Damage.{InBursts, Pairwise}

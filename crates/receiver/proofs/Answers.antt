@@ -1,26 +1,27 @@
--- The four answers of the receiver's entry: refused, with one waiting, with nothing received, and begun afresh. Document 01, "What the receiver
+-- The answers of the receiver's entry: refused, or a run from the state with one waiting. Document 01, "What the receiver
 -- releases" and "Numbers of refusal". Assumes nothing.
 use mathlib.Core.Path.{_≡_, refl, sym, ap, ap₂, _∙_, subst}
 use mathlib.Core.Bool.{Bool, true, false}
 use mathlib.Core.List.{List, []}
-use Prim.Native.Nat.{ℕ, _+_, _-_, _*_, _/_, _≤_}
+use Prim.Native.Nat.{ℕ, _+_, _-_, _*_, _/_, _≤_, _<_}
 use native.Mathlib.Nat.{div-add-mod'}
 use native.Mathlib.Omega.{arith}
-use borrow.Author.Tests.{eqb-true, eq-eqb, ne-eqb}
-use lib.Dec.{eqb}
+use borrow.Author.Tests.{ltb-true, ltb-false, eqb-true, eq-eqb, ne-eqb}
+use lib.Dec.{ltb, eqb}
 use lib.ListN.{length, take, drop, length-drop}
 use Rattle.bits.specs.Choice.{pick}
 use Rattle.bits.specs.Order.{bitAt, laid}
-use Rattle.frame.specs.Modes.{row}
+use Rattle.frame.specs.Modes.{Row, row}
 use Rattle.frame.specs.Lane.{laneOctets}
 use Rattle.frame.proofs.Lane.{laneFrom}
 use Rattle.frame.proofs.Sizes.{row-octets}
 use Rattle.receiver.specs.declared.Receiver.{Receiver}
 use Rattle.receiver.specs.declared.Received.{Received}
+use Rattle.receiver.specs.declared.run.Begun.{Begun}
 use Rattle.receiver.specs.Release.{Step, waitingAt, run}
 use Rattle.receiver.specs.Refusal.{releases, refusalOf}
 use Rattle.receiver.specs.Entry.{done, laidOut, octetsOut, listed, entry}
-use Rattle.receiver.specs.Turn.{Room}
+use Rattle.receiver.specs.Turn.{begunBy, Room}
 use Rattle.receiver.proofs.Counts.{step-first}
 use Rattle.receiver.proofs.Cut.{then, run-cut, bits-from}
 use Rattle.receiver.proofs.Refusals.{Accepted, accepted}
@@ -36,6 +37,43 @@ begun mode lane s k w =
     run-cut R (bitAt lane) s 1 k
     ∙ ap (λ (x : Step). then x (run R (laneFrom (R .gap) (bitAt lane) 1) (x .state) k)) first
     ∙ ap (λ (f : ℕ → ℕ). run R f (waitingAt R (bitAt lane) 0 0 false) k) (sym (bits-from mode lane 1))
+
+-- a call begins with one waiting, or takes the first multiblock, or there is none
+record Begins (mode : ℕ) (s : Receiver) (lane : List ℕ) (b : Begun) : Type 0 where
+  few : b .taken ≤ length lane / 264
+  waits : 0 < length lane / 264 - b .taken → b .state .waiting ≡ true
+  left : length lane / 264 - b .taken ≡ releases (s .waiting) (length lane / 264)
+  same : run (row mode) (bitAt lane) s (length lane / 264) ≡ run (row mode) (bitAt (drop (264 * b .taken) lane)) (b .state) (length lane / 264 - b .taken)
+
+begins : (mode : ℕ) (s : Receiver) (lane : List ℕ) (b : Begun) → b ≡ begunBy (row mode) s lane → Begins mode s lane b
+unfolding begunBy releases waitingAt
+begins mode s lane b e = subst (Begins mode s lane) (sym e) (by (s .waiting) (ltb (length lane) 264) refl refl)
+  where
+    R : Row
+    R = row mode
+
+    as-is : (0 < length lane / 264 → s .waiting ≡ true) → length lane / 264 ≡ releases (s .waiting) (length lane / 264) → Begins mode s lane (record { state = s; taken = 0 })
+    as-is w l = record {
+      few = omega arith;
+      waits = λ some. w (omega arith);
+      left = omega (arith, l);
+      same = ap (run R (bitAt lane) s) {x = length lane / 264} {y = length lane / 264 - 0} (omega arith);
+    }
+
+    by : (w t : Bool) → s .waiting ≡ w → ltb (length lane) 264 ≡ t
+        → Begins mode s lane (pick w (record { state = s; taken = 0 }) (pick t (record { state = s; taken = 0 }) (record { state = waitingAt R (bitAt lane) 0 0 false; taken = 1 })))
+    by true t ew et = as-is (λ _. ew) (sym (ap (λ (w : Bool). releases w (length lane / 264)) ew))
+    by false true ew et =
+        let short = ltb-true (length lane) 264 et in
+        as-is (λ l. absurd (omega arith)) (omega (arith, ap (λ (w : Bool). releases w (length lane / 264)) ew))
+    by false false ew et =
+        let long = ltb-false (length lane) 264 et in
+        record {
+          few = omega arith;
+          waits = λ _. refl;
+          left = sym (ap (λ (w : Bool). releases w (length lane / 264)) ew);
+          same = ap (run R (bitAt lane) s) {x = length lane / 264} {y = 1 + (length lane / 264 - 1)} (omega arith) ∙ begun mode lane s (length lane / 264 - 1) ew;
+        }
 
 module _ (mode : ℕ) (s : Receiver) (lane o st c p q : List ℕ) (refusal : ℕ) (e : refusal ≡ refusalOf mode s (length lane) (length o) (length st) (length c) (length p) (length q)) where
   pub is-refused : (refusal ≡ 0 → ⊥) → done (record { refusal = refusal; count = 0; state = s }) o st c p q ≡ entry mode s lane o st c p q
@@ -53,39 +91,26 @@ module _ (mode : ℕ) (s : Receiver) (lane o st c p q : List ℕ) (refusal : ℕ
     whole : length lane / 264 * 264 ≡ length lane
     whole = omega (arith, div-add-mod' (length lane) 264, ok .whole)
 
-    pub waits : s .waiting ≡ true
-        → ((s .waiting ≡ true) × (264 * (length lane / 264) ≤ length lane) × (length lane / 264 ≤ 240)) × Room (length lane / 264) (length o) (length st) (length c) (length p) (length q)
-    unfolding releases
-    waits w = (
-      (w, omega (arith, whole), ok .few),
-      subst (λ (b : Bool). Room (releases b (length lane / 264)) (length o) (length st) (length c) (length p) (length q)) w (ok .room),
-    )
+    module _ (b : Begun) (eb : b ≡ begunBy (row mode) s lane) where
+      from : Begins mode s lane b
+      from = begins mode s lane b eb
 
-    pub is-all : (r : Received) (o′ st′ c′ p′ q′ : List ℕ) → done r o′ st′ c′ p′ q′ ≡ laidOut (run (row mode) (bitAt lane) s (length lane / 264)) o st c p q → done r o′ st′ c′ p′ q′ ≡ entry mode s lane o st c p q
-    is-all r o′ st′ c′ p′ q′ h = h ∙ sym is-run
-
-    pub is-none : length lane / 264 ≡ 0 → done (record { refusal = 0; count = 0; state = s }) o st c p q ≡ entry mode s lane o st c p q
-    unfolding run laid octetsOut listed
-    is-none h = sym (is-run ∙ ap (λ (k : ℕ). laidOut (run (row mode) (bitAt lane) s k) o st c p q) h)
-
-    module _ (first : Receiver) (w : s .waiting ≡ false) (some : length lane / 264 ≡ 0 → ⊥) (ef : first ≡ waitingAt (row mode) (bitAt lane) 0 0 false) where
-      pub begins : ((first .waiting ≡ true) × (264 * (length lane / 264 - 1) ≤ length (take (length lane - 264) (drop 264 lane))) × (length lane / 264 - 1 ≤ 240))
-          × Room (length lane / 264 - 1) (length o) (length st) (length c) (length p) (length q)
-      unfolding releases waitingAt
-      begins = (
-        (ap (λ (x : Receiver). x .waiting) ef, omega (arith, whole, ap length (rest-of lane 264), length-drop 264 lane), omega (arith, ok .few)),
-        subst (λ (b : Bool). Room (releases b (length lane / 264)) (length o) (length st) (length c) (length p) (length q)) w (ok .room),
+      pub ready : ((0 < length lane / 264 - b .taken → b .state .waiting ≡ true)
+          × (264 * (length lane / 264 - b .taken) ≤ length (take (length lane - 264 * b .taken) (drop (264 * b .taken) lane)))
+          × (length lane / 264 - b .taken ≤ 240))
+          × Room (length lane / 264 - b .taken) (length o) (length st) (length c) (length p) (length q)
+      ready = (
+        (from .waits, omega (arith, whole, from .few, ap length (rest-of lane (264 * b .taken)), length-drop (264 * b .taken) lane), omega (arith, ok .few)),
+        subst (λ (k : ℕ). Room k (length o) (length st) (length c) (length p) (length q)) (sym (from .left)) (ok .room),
       )
 
-      pub is-later : (r : Received) (o′ st′ c′ p′ q′ : List ℕ)
-          → done r o′ st′ c′ p′ q′ ≡ laidOut (run (row mode) (bitAt (take (length lane - 264) (drop 264 lane))) first (length lane / 264 - 1)) o st c p q
+      pub is-all : (r : Received) (o′ st′ c′ p′ q′ : List ℕ)
+          → done r o′ st′ c′ p′ q′ ≡ laidOut (run (row mode) (bitAt (take (length lane - 264 * b .taken) (drop (264 * b .taken) lane))) (b .state) (length lane / 264 - b .taken)) o st c p q
           → done r o′ st′ c′ p′ q′ ≡ entry mode s lane o st c p q
-      is-later r o′ st′ c′ p′ q′ h =
-          let k = length lane / 264 - 1 in
+      is-all r o′ st′ c′ p′ q′ h =
           h
-          ∙ ap₂ (λ (x : List ℕ) (y : Receiver). laidOut (run (row mode) (bitAt x) y k) o st c p q) (rest-of lane 264) ef
-          ∙ ap (λ (x : Step). laidOut x o st c p q) (sym (begun mode lane s k w))
-          ∙ ap (λ (j : ℕ). laidOut (run (row mode) (bitAt lane) s j) o st c p q) {x = 1 + k} {y = length lane / 264} (omega arith)
+          ∙ ap (λ (x : List ℕ). laidOut (run (row mode) (bitAt x) (b .state) (length lane / 264 - b .taken)) o st c p q) (rest-of lane (264 * b .taken))
+          ∙ ap (λ (x : Step). laidOut x o st c p q) (sym (from .same))
           ∙ sym is-run
 
 -- ---- an accepted call, by its answer

@@ -3,7 +3,7 @@
 use mathlib.Core.Path.{_≡_, refl, ap, _∙_}
 use mathlib.Core.Bool.{Bool, true, false}
 use mathlib.Core.List.{List, [], _∷_, _++_}
-use Prim.Native.Nat.{ℕ, zero, suc, _+_, _-_}
+use Prim.Native.Nat.{ℕ, zero, suc, _+_, _-_, _<_}
 use native.Mathlib.Numerals.{add-one}
 use native.Mathlib.Omega.{arith}
 use lib.ListN.{length, length-append}
@@ -59,6 +59,12 @@ module _ (R : Row) (lane : ℕ → ℕ) where
     unfolding run
     all-counted zero w = refl
     all-counted (suc n) w = longer n (run-waits n w) ∙ ap suc (all-counted n w)
+
+    -- where there are any
+    pub counted : (n : ℕ) → (0 < n → s .waiting ≡ true) → length (run R lane s n .out) ≡ n
+    unfolding run
+    counted zero w = refl
+    counted (suc n) w = all-counted (suc n) (w (omega arith))
 
     but-one : (n : ℕ) → s .waiting ≡ false → length (run R lane s (suc n) .out) ≡ n
     unfolding run

@@ -1,5 +1,4 @@
 -- Laws of what the receiver releases.
-pub mod Mending
 pub mod Refusals
 pub mod Cut
 pub mod Counts
@@ -11,4 +10,3 @@ pub mod Turns
 pub mod Answers
 pub mod Afresh
 pub mod Numbered
-pub mod Judging

@@ -15,9 +15,9 @@ use Rattle.frame.specs.Modes.{Row}
 use Rattle.frame.specs.Lane.{dataOctets, syncBit}
 use Rattle.frame.specs.SyncWord.{readParity}
 use Rattle.scrambler.specs.Scrambling.{descrambled}
-use Rattle.receiver.specs.declared.Verdict.{Verdict}
+use Rattle.judge.specs.declared.Verdict.{Verdict}
 use Rattle.receiver.specs.declared.Receiver.{Receiver}
-use Rattle.receiver.specs.Judge.{judged, mended, marked, trustedAfter}
+use Rattle.judge.specs.Judge.{judged, mended, marked, trustedAfter}
 use Rattle.receiver.specs.Release.{fresh, Release, Step, verdictAt, mendedAt, releaseAt, waitingAt, step, run}
 use Rattle.receiver.specs.Refusal.{releases}
 use Rattle.receiver.specs.Entry.{octetsOut, listed}

@@ -5,52 +5,52 @@ use mathlib.Core.Bool.{Bool, true}
 use mathlib.Core.List.{List, [], _∷_, _++_}
 use Prim.Native.Nat.{ℕ, _+_, _-_, _*_, _≤_, _<_}
 use native.Mathlib.Omega.{arith}
+use borrow.Author.Tests.{le-ltb}
+use lib.Dec.{ltb}
 use lib.ListN.{length, take, drop, set, length-set, length-drop}
 use lib.Seq.{take-all}
 use borrow.Rule.Slice.PartMut.{putMid, midOf, same-len-mid}
+use Rattle.bits.specs.Choice.{pick}
 use Rattle.bits.specs.Order.{bitAt, number, laid}
-use Rattle.bits.specs.Parts.{refusalOf, written}
-use Rattle.bits.proofs.Parts.{not-refused, answered}
+use Rattle.bits.specs.Parts.{written}
+use Rattle.bits.proofs.Parts.{answered}
 use Rattle.scrambler.specs.Scrambling.{descrambled}
 use Rattle.frame.specs.Modes.{Row, row}
-use Rattle.receiver.specs.declared.Verdict.{Verdict}
+use Rattle.judge.specs.declared.Released.{Released}
 use Rattle.receiver.specs.declared.Receiver.{Receiver}
 use Rattle.receiver.specs.declared.run.Heard.{Heard}
-use Rattle.receiver.specs.Judge.{judged, mended, marked, trustedAfter}
+use Rattle.judge.specs.Judge.{judged, mended, marked, trustedAfter}
 use Rattle.receiver.specs.Release.{Release, Step, verdictAt, mendedAt, releaseAt, waitingAt, step, run}
 use Rattle.receiver.specs.Entry.{octetsOut, listed, done, laidOut}
 use Rattle.receiver.specs.Turn.{heardAt, Room, Turned}
 use Rattle.receiver.proofs.Buffers.{laid-one, laid-part, listed-more, listed-length, octets-more, release-length, octets-length}
-use Rattle.receiver.proofs.Counts.{run-more, run-waits, all-counted}
+use Rattle.receiver.proofs.Counts.{run-more, run-waits, all-counted, counted}
 use Rattle.receiver.proofs.Cut.{same-step, same-release, heard-from, bits-from}
-use Rattle.receiver.proofs.Mending.{mended-length}
 
 -- ---- one turn
 
 -- what the code of a turn computes, put together
-pub turned : (mode : ℕ) (s : Receiver) (lane : List ℕ) (k : ℕ) (o st c p q o′ : List ℕ) (heard : Heard) (v : Verdict) (whole : List ℕ) (refusal mark history : ℕ) (trusted : Bool)
+pub turned : (mode : ℕ) (s : Receiver) (lane : List ℕ) (k : ℕ) (o st c p q o′ : List ℕ) (heard : Heard) (r : Released)
     → s .waiting ≡ true
     → 256 ≤ length o
     → heard ≡ heardAt (row mode) (bitAt lane) 0
-    → v ≡ judged (row mode) (s .octets) (heard .parity)
-    → whole ≡ mended v (s .octets)
-    → refusal ≡ refusalOf 256 whole 256 o
-    → o′ ≡ written refusal (descrambled whole (s .history) 256) o
-    → mark ≡ marked v (s .trusted)
-    → history ≡ number (bitAt whole) 1990 58
-    → trusted ≡ trustedAfter v
+    → r .refusal ≡ pick (ltb (length o) 256) 7 0
+    → r .verdict ≡ judged (row mode) (s .octets) (heard .parity)
+    → r .status ≡ marked (r .verdict) (s .trusted)
+    → r .history ≡ number (bitAt (mended (r .verdict) (s .octets))) 1990 58
+    → r .trusted ≡ trustedAfter (r .verdict)
+    → o′ ≡ written (r .refusal) (descrambled (mended (r .verdict) (s .octets)) (s .history) 256) o
     → Turned (step (row mode) (bitAt lane) 0 s .state) (releaseAt (row mode) (bitAt lane) 0 s) k
-    (record { waiting = true; octets = heard .octets; history = history; trusted = trusted; command = heard .command })
-    o st c p q o′ (set st k mark) (set c k (s .command)) (set p k (v .place)) (set q k (v .pattern))
+    (record { waiting = true; octets = heard .octets; history = r .history; trusted = r .trusted; command = heard .command })
+    o st c p q o′ (set st k (r .status)) (set c k (s .command)) (set p k (r .verdict .place)) (set q k (r .verdict .pattern))
 unfolding step waitingAt releaseAt mendedAt verdictAt heardAt
-turned mode s lane k o st c p q o′ heard v whole refusal mark history trusted w room eh ev ew er eo em ey et =
+turned mode s lane k o st c p q o′ heard r w room eh er ev em ey et eo =
     let R = row mode in
-    let own : v ≡ verdictAt R (bitAt lane) 0 s = ev ∙ ap (λ (h : Heard). judged R (s .octets) (h .parity)) eh in
-    let all : whole ≡ mendedAt R (bitAt lane) 0 s = ew ∙ ap (λ (x : Verdict). mended x (s .octets)) own in
-    let none : refusal ≡ 0 = er ∙ not-refused 256 whole 256 o (omega (arith, ap length ew, mended-length v (s .octets))) room in
+    let own : r .verdict ≡ verdictAt R (bitAt lane) 0 s = ev ∙ ap (λ (h : Heard). judged R (s .octets) (h .parity)) eh in
+    let none : r .refusal ≡ 0 = er ∙ ap (λ (t : Bool). pick t 7 0) (le-ltb (length o) 256 room) in
     record {
-      state = rw (w, eh, ey, et, all, own);
-      octets = eo ∙ answered refusal (descrambled whole (s .history) 256) o none ∙ rw all;
+      state = rw (w, eh, ey, et, own);
+      octets = eo ∙ answered (r .refusal) _ o none ∙ rw own;
       statuses = rw (em, own);
       commands = refl;
       places = rw own;
@@ -147,7 +147,7 @@ module _ (mode : ℕ) (lane : List ℕ) (start : Receiver) (k n : ℕ) (s : Rece
       }
 
 -- all turns
-pub held-all : (R : Row) (lane : ℕ → ℕ) (start : Receiver) (k n : ℕ) (s : Receiver) (o₀ st₀ c₀ p₀ q₀ o st c p q : List ℕ) → start .waiting ≡ true → k ≡ n
+pub held-all : (R : Row) (lane : ℕ → ℕ) (start : Receiver) (k n : ℕ) (s : Receiver) (o₀ st₀ c₀ p₀ q₀ o st c p q : List ℕ) → (0 < n → start .waiting ≡ true) → k ≡ n
     → Held R lane start k s o₀ st₀ c₀ p₀ q₀ o st c p q → done (record { refusal = 0; count = n; state = s }) o st c p q ≡ laidOut (run R lane start n) o₀ st₀ c₀ p₀ q₀
 held-all R lane start k n s o₀ st₀ c₀ p₀ q₀ o st c p q w e h =
     rw (h .state, h .octets, h .statuses, h .commands, h .places, h .patterns, ← e)
@@ -156,4 +156,4 @@ held-all R lane start k n s o₀ st₀ c₀ p₀ q₀ o st c p q w e h =
     (laid (listed (λ (r : Release). r .status) (run R lane start k .out)) st₀)
     (laid (listed (λ (r : Release). r .command) (run R lane start k .out)) c₀)
     (laid (listed (λ (r : Release). r .place) (run R lane start k .out)) p₀)
-    (laid (listed (λ (r : Release). r .pattern) (run R lane start k .out)) q₀)) (sym (all-counted R lane start k w)))
+    (laid (listed (λ (r : Release). r .pattern) (run R lane start k .out)) q₀)) (sym (counted R lane start k (λ l. w (omega arith)))))

@@ -1,7 +1,5 @@
 -- What a receiver releases, and what it refuses.
-pub mod Judge
 pub mod Release
 pub mod Refusal
 pub mod Entry
-pub mod Sound
 pub mod Turn

@@ -10,9 +10,9 @@ use Rattle.scrambler.specs.Scrambling.{descrambled}
 use Rattle.frame.specs.Modes.{Row}
 use Rattle.frame.specs.Lane.{dataOctets, syncBit, spoiltBit}
 use Rattle.frame.specs.SyncWord.{readParity, markedCommand}
-use Rattle.receiver.specs.declared.Verdict.{Verdict}
+use Rattle.judge.specs.declared.Verdict.{Verdict}
 use Rattle.receiver.specs.declared.Receiver.{Receiver}
-use Rattle.receiver.specs.Judge.{judged, mended, marked, trustedAfter}
+use Rattle.judge.specs.Judge.{judged, mended, marked, trustedAfter}
 
 -- nothing waiting, history 0 and no trust
 abbrev pub fresh : Receiver

@@ -1,17 +1,19 @@
 -- What the functions behind the receiver's entry promise to each other. No public promise cites it. Assumes nothing.
 use mathlib.Core.Path.{_≡_}
-use mathlib.Core.Bool.{Bool, not, _&&_}
+use mathlib.Core.Bool.{Bool, false, not, _&&_}
 use mathlib.Core.List.{List}
 use Prim.Native.Nat.{ℕ, _*_, _≤_}
-use lib.Dec.{leb, eqb}
-use lib.ListN.{set}
-use Rattle.bits.specs.Order.{laid}
+use lib.Dec.{ltb, leb, eqb}
+use lib.ListN.{length, set}
+use Rattle.bits.specs.Choice.{pick}
+use Rattle.bits.specs.Order.{bitAt, laid}
 use Rattle.frame.specs.Modes.{Row}
 use Rattle.frame.specs.Lane.{dataOctets, syncBit, spoiltBit}
 use Rattle.frame.specs.SyncWord.{readParity, markedCommand}
 use Rattle.receiver.specs.declared.Receiver.{Receiver}
 use Rattle.receiver.specs.declared.run.Heard.{Heard}
-use Rattle.receiver.specs.Release.{Release}
+use Rattle.receiver.specs.declared.run.Begun.{Begun}
+use Rattle.receiver.specs.Release.{Release, waitingAt}
 use Rattle.receiver.specs.Refusal.{allZero}
 
 -- all that is heard of multiblock m
@@ -21,6 +23,13 @@ heardAt R lane m = record {
   parity = readParity R (syncBit (R .gap) lane m);
   command = markedCommand R (syncBit (R .gap) lane m) (spoiltBit (R .gap) lane m);
 }
+
+-- the state from which each multiblock received releases one, and how many of the lane's were taken for it
+unfoldable pub begunBy : Row → Receiver → List ℕ → Begun
+begunBy R s lane =
+    pick (s .waiting) (record { state = s; taken = 0 })
+    (pick (ltb (length lane) 264) (record { state = s; taken = 0 })
+    (record { state = waitingAt R (bitAt lane) 0 0 false; taken = 1 }))
 
 -- the two last tests of a state and of the lengths
 unfoldable pub asFresh : Receiver → Bool

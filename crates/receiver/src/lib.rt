@@ -3,7 +3,6 @@ ghost use mathlib.Core.Path.{_≡_};
 ghost use Rattle.receiver.specs.Release.{fresh};
 ghost use Rattle.receiver.specs.Entry.{done, entry};
 
-mod judge;
 mod refusal;
 mod run;
 
@@ -15,13 +14,6 @@ pub struct Receiver {
     pub history: u64,
     pub trusted: bool,
     pub command: u32,
-}
-
-// What a waiting multiblock turns out to be: status 0, 1 or 2, and the burst that was flipped.
-pub struct Verdict {
-    pub status: u8,
-    pub place: u16,
-    pub pattern: u16,
 }
 
 // A refusal, or 0 with the multiblocks released; and the state for the next call.
@@ -77,33 +69,13 @@ pub fn receive(
             state,
         };
     }
-    let n = lane.len() / 264;
-    if state.waiting {
-        return run::run(
-            mode,
-            state,
-            lane,
-            n,
-            octets,
-            statuses,
-            commands,
-            places,
-            patterns,
-        );
-    }
-    if n == 0 {
-        return Received {
-            refusal: 0,
-            count: 0,
-            state,
-        };
-    }
-    let first = run::begin(mode, lane);
+    let begun = run::begin(mode, state, lane);
+    let first = begun.state;
     run::run(
         mode,
         first,
-        &lane[264..],
-        n - 1,
+        &lane[264 * begun.taken..],
+        lane.len() / 264 - begun.taken,
         octets,
         statuses,
         commands,

@@ -1,16 +1,15 @@
 // Multiblocks received one after another, each releasing the one before it: document 01, "What the receiver releases".
 ghost use mathlib.Core.Path.{_≡_};
-ghost use mathlib.Core.Bool.{true, false};
+ghost use mathlib.Core.Bool.{true};
 ghost use Prim.Native.Nat.{_*_, _<_, _≤_};
 ghost use lib.ListN.{length};
 ghost use Rattle.bits.specs.Order.{bitAt};
 ghost use Rattle.frame.specs.Modes.{row};
-ghost use Rattle.receiver.specs.Release.{waitingAt, releaseAt, step, run};
+ghost use Rattle.receiver.specs.Release.{releaseAt, step, run};
 ghost use Rattle.receiver.specs.Entry.{done, laidOut};
-ghost use Rattle.receiver.specs.Turn.{heardAt, Turned, Room};
+ghost use Rattle.receiver.specs.Turn.{heardAt, begunBy, Turned, Room};
 use crate::Received;
 use crate::Receiver;
-use crate::judge;
 use frame::sync;
 
 // What a multiblock tells: its data octets as they came, the parity of the one before it, and its command.
@@ -35,19 +34,35 @@ fn hear(mode: u8, lane: &[u8]) -> Heard
     }
 }
 
-// The first multiblock of a fresh receiver waits. Nothing came before it.
-pub(crate) fn begin(mode: u8, lane: &[u8]) -> Receiver
-    requires { ⌜ 264 ≤ length (now lane) ⌝ }
-    ensures { λ r. ⌜ r ≡ waitingAt (row mode) (bitAt (now (lane .entry))) 0 0 false ⌝ }
+// A state, and how many multiblocks of the lane were taken for it.
+pub(crate) struct Begun {
+    pub(crate) state: Receiver,
+    pub(crate) taken: usize,
+}
+
+// Where none waits, the first multiblock does, if there is one. Nothing came before it.
+pub(crate) fn begin(mode: u8, state: Receiver, lane: &[u8]) -> Begun
+    ensures { λ r. ⌜ r ≡ begunBy (row mode) state (now (lane .entry)) ⌝ }
+    ensures { λ r. ⌜ 264 * r .taken ≤ length (now (lane .entry)) ⌝ }
 {
+    if state.waiting {
+        return Begun { state, taken: 0 };
+    }
+    if lane.len() < 264 {
+        return Begun { state, taken: 0 };
+    }
     let heard = hear(mode, lane);
     let octets = heard.octets;
-    Receiver {
+    let first = Receiver {
         waiting: true,
         octets,
         history: 0,
         trusted: false,
         command: heard.command,
+    };
+    Begun {
+        state: first,
+        taken: 1,
     }
 }
 
@@ -71,26 +86,30 @@ fn release(
 {
     let heard = hear(mode, lane);
     let own = state.octets;
-    let verdict = judge::judge(mode, &own[..], heard.parity);
-    let mended = judge::mend(own, verdict);
-    scrambler::descramble_multiblock(&mended[..], state.history, octets);
-    statuses[k] = judge::mark(verdict, state.trusted);
+    let released = judge::release(
+        mode,
+        own,
+        state.history,
+        state.trusted,
+        heard.parity,
+        octets,
+    );
+    let verdict = released.verdict;
+    statuses[k] = released.status;
     commands[k] = state.command;
     places[k] = verdict.place;
     patterns[k] = verdict.pattern;
-    let history = scrambler::history_of(&mended[..]);
-    let trusted = judge::trusted_after(verdict);
     let next = heard.octets;
     Receiver {
         waiting: true,
         octets: next,
-        history,
-        trusted,
+        history: released.history,
+        trusted: released.trusted,
         command: heard.command,
     }
 }
 
-// The n multiblocks of `lane` are received, from a state with one waiting. Each releases one.
+// The n multiblocks of `lane` are received, from a state with one waiting, if there are any. Each releases one.
 pub(crate) fn run(
     mode: u8,
     start: Receiver,
@@ -102,7 +121,7 @@ pub(crate) fn run(
     places: &mut [u16],
     patterns: &mut [u16],
 ) -> Received
-    requires { ⌜ (start .waiting ≡ true) × (264 * n ≤ length (now lane)) × (n ≤ 240) ⌝ }
+    requires { ⌜ (0 < n → start .waiting ≡ true) × (264 * n ≤ length (now lane)) × (n ≤ 240) ⌝ }
     requires { ⌜ Room n (length (now octets)) (length (now statuses)) (length (now commands)) (length (now places)) (length (now patterns)) ⌝ }
     ensures { λ r. ⌜ done r (now (octets .exit)) (now (statuses .exit)) (now (commands .exit)) (now (places .exit)) (now (patterns .exit))
         ≡ laidOut (run (row mode) (bitAt (now (lane .entry))) start n)

@@ -55,7 +55,7 @@ release-requires c κs =
     let long = ap length (rest-of (now (a .lane)) (264 * l .k)) ∙ length-drop (264 * l .k) (now (a .lane)) in
     let part = ap length (rest-of (l .octets) (256 * l .k)) ∙ length-drop (256 * l .k) (l .octets) in
     let less = c .before .before .before .before .before .before .loop-test .taken in
-    ((still-waits (a .mode) (now (a .lane)) (a .start) (l .k) (a .n) (l .state) (now (a .octets)) (now (a .statuses)) (now (a .commands)) (now (a .places)) (now (a .patterns)) (l .octets) (l .statuses) (l .commands) (l .places) (l .patterns) (pre .0 .0) less room h, omega (arith, long, less, pre .0 .1), omega (arith, part, less, room .octets-fit, h .octets-long)), (omega (arith, less, pre .0 .2), omega (arith, less, room .statuses-fit, h .statuses-long), omega (arith, less, room .commands-fit, h .commands-long), omega (arith, less, room .places-fit, h .places-long), omega (arith, less, room .patterns-fit, h .patterns-long)))
+    ((still-waits (a .mode) (now (a .lane)) (a .start) (l .k) (a .n) (l .state) (now (a .octets)) (now (a .statuses)) (now (a .commands)) (now (a .places)) (now (a .patterns)) (l .octets) (l .statuses) (l .commands) (l .places) (l .patterns) (pre .0 .0 (omega (arith, less))) less room h, omega (arith, long, less, pre .0 .1), omega (arith, part, less, room .octets-fit, h .octets-long)), (omega (arith, less, pre .0 .2), omega (arith, less, room .statuses-fit, h .statuses-long), omega (arith, less, room .commands-fit, h .commands-long), omega (arith, less, room .places-fit, h .places-long), omega (arith, less, room .patterns-fit, h .patterns-long)))
 
 add-k : tie.Need-add-k Inv-loop μ-loop
 add-k c = search needs
@@ -70,7 +70,7 @@ loop-again c =
     let l = c .before .before .before .before .before .before .before .before .before .before .before .before .before .before .before .before .before .before .loop in
     let less = c .before .before .before .before .before .before .before .before .before .before .before .before .before .before .before .before .before .loop-test .taken in
     let r = c .before .before .before .before .before .before .before .before .before .before .release in
-    (omega (arith, less), held-more (a .mode) (now (a .lane)) (a .start) (l .k) (a .n) (l .state) (now (a .octets)) (now (a .statuses)) (now (a .commands)) (now (a .places)) (now (a .patterns)) (l .octets) (l .statuses) (l .commands) (l .places) (l .patterns) (pre .0 .0) less (pre .1) (l .inv .1) _ (r .result) _ _ _ _ _ (rest-of (now (a .lane)) (264 * l .k)) (r .kept .1 .1 .1 .1 .0) (r .ensures))
+    (omega (arith, less), held-more (a .mode) (now (a .lane)) (a .start) (l .k) (a .n) (l .state) (now (a .octets)) (now (a .statuses)) (now (a .commands)) (now (a .places)) (now (a .patterns)) (l .octets) (l .statuses) (l .commands) (l .places) (l .patterns) (pre .0 .0 (omega (arith, less))) less (pre .1) (l .inv .1) _ (r .result) _ _ _ _ _ (rest-of (now (a .lane)) (264 * l .k)) (r .kept .1 .1 .1 .1 .0) (r .ensures))
 
 same-length : tie.Need-same-length Inv-loop μ-loop
 same-length c = search needs

@@ -1,11 +1,11 @@
--- `receiver::judge::mark` meets its contract.
+-- `judge::mark` meets its contract.
 -- Assumes nothing.
 use borrow.Author.Needs.{needs}
 use Prim.Native.Nat.{_-_}
-use Rattle.receiver.specs.Judge.{marked}
+use Rattle.judge.specs.Judge.{marked}
 use native.Mathlib.Nat.{add-zero}
-use Rattle.receiver.proofs.judge.mark.Statement.{statement}
-use Rattle.receiver.proofs.judge.mark.Tie as tie
+use Rattle.judge.proofs.mark.Statement.{statement}
+use Rattle.judge.proofs.mark.Tie as tie
 
 returns : tie.Need-returns
 unfolding marked

@@ -1,11 +1,11 @@
--- `receiver::judge::by_burst` meets its contract.
+-- `judge::by_burst` meets its contract.
 -- Assumes nothing.
 use borrow.Author.Needs.{needs}
 use Prim.Native.Nat.{_-_}
 use mathlib.Core.Path.{sym, ap}
-use Rattle.receiver.specs.Judge.{byBurst}
-use Rattle.receiver.proofs.judge.by_burst.Statement.{statement}
-use Rattle.receiver.proofs.judge.by_burst.Tie as tie
+use Rattle.judge.specs.Judge.{byBurst}
+use Rattle.judge.proofs.by_burst.Statement.{statement}
+use Rattle.judge.proofs.by_burst.Tie as tie
 
 enum-known-burst : tie.Need-enum-known-burst
 enum-known-burst c = search needs

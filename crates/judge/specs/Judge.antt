@@ -12,7 +12,7 @@ use Rattle.parity.specs.Codeword.{parityOf}
 use Rattle.parity.specs.Bursts.{flips}
 use Rattle.parity.proofs.Answer.{burstFor}
 use Rattle.frame.specs.Modes.{Row}
-use Rattle.receiver.specs.declared.Verdict.{Verdict}
+use Rattle.judge.specs.declared.Verdict.{Verdict}
 
 -- 0: parity agrees
 abbrev pub agrees : Verdict

@@ -20,8 +20,8 @@ use Rattle.bits.proofs.Tests.{every, every-at}
 use Rattle.bits.proofs.Xor.{xor-assoc}
 use Rattle.parity.specs.Bursts.{flips}
 use Rattle.parity.proofs.Bursts.{flips-at, flips-before}
-use Rattle.receiver.specs.declared.Verdict.{Verdict}
-use Rattle.receiver.specs.Judge.{mended}
+use Rattle.judge.specs.declared.Verdict.{Verdict}
+use Rattle.judge.specs.Judge.{mended}
 
 -- ---- one bit
 

@@ -1,11 +1,11 @@
--- `receiver::judge::judge` meets its contract.
+-- `judge::judge` meets its contract.
 -- Assumes nothing.
 use borrow.Author.Needs.{needs}
 use Prim.Native.Nat.{_-_}
 use borrow.Author.Tests.{eq-eqb, ne-eqb}
-use Rattle.receiver.specs.Judge.{judged}
-use Rattle.receiver.proofs.judge.judge.Statement.{statement}
-use Rattle.receiver.proofs.judge.judge.Tie as tie
+use Rattle.judge.specs.Judge.{judged}
+use Rattle.judge.proofs.judge.Statement.{statement}
+use Rattle.judge.proofs.judge.Tie as tie
 
 of-requires : tie.Need-of-requires
 of-requires c κs = search needs

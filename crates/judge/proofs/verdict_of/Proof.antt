@@ -1,12 +1,12 @@
--- `receiver::judge::verdict_of` meets its contract.
+-- `judge::verdict_of` meets its contract.
 -- Assumes nothing.
 use borrow.Author.Needs.{needs}
 use Prim.Native.Nat.{_-_}
 use borrow.Author.Tests.{eq-eqb, ne-eqb}
-use Rattle.receiver.specs.Judge.{verdictOf}
+use Rattle.judge.specs.Judge.{verdictOf}
 use Rattle.parity.proofs.Answer.{answer-is}
-use Rattle.receiver.proofs.judge.verdict_of.Statement.{statement}
-use Rattle.receiver.proofs.judge.verdict_of.Tie as tie
+use Rattle.judge.proofs.verdict_of.Statement.{statement}
+use Rattle.judge.proofs.verdict_of.Tie as tie
 
 returns : tie.Need-returns
 unfolding verdictOf

@@ -21,10 +21,10 @@ use Rattle.parity.specs.Answer.{Explains}
 use Rattle.parity.proofs.Sets.{flips-bit}
 use Rattle.parity.proofs.Answer.{answer-is}
 use Rattle.frame.specs.Modes.{Row}
-use Rattle.receiver.specs.declared.Verdict.{Verdict}
-use Rattle.receiver.specs.Judge.{agrees, failed, byBurst, verdictOf, judged, mended, marked, trustedAfter}
-use Rattle.receiver.specs.Sound.{sound}
-use Rattle.receiver.proofs.Mending.{flips-none}
+use Rattle.judge.specs.declared.Verdict.{Verdict}
+use Rattle.judge.specs.Judge.{agrees, failed, byBurst, verdictOf, judged, mended, marked, trustedAfter}
+use Rattle.judge.specs.Sound.{sound}
+use Rattle.judge.proofs.Mending.{flips-none}
 
 module _ (R : Row) (octets : List ℕ) (parity : ℕ) where
   abbrev difference : ℕ

@@ -1,14 +1,14 @@
--- `receiver::judge::mend` meets its contract.
+-- `judge::mend` meets its contract.
 -- Assumes nothing.
 use borrow.Author.Needs.{needs}
 use Prim.Native.Nat.{_-_, _%_}
 use mathlib.Core.Path.{_≡_, refl, _∙_}
 use mathlib.Core.Logic.{⊎-elim}
 use native.Mathlib.Omega.{arith}
-use Rattle.receiver.proofs.Mending.{flipAt, Mending, flip-next, skip-parity, skip-even, all-flipped}
+use Rattle.judge.proofs.Mending.{flipAt, Mending, flip-next, skip-parity, skip-even, all-flipped}
 use lib.Bits.{bitAnd, and-mask}
-use Rattle.receiver.proofs.judge.mend.Statement.{statement}
-use Rattle.receiver.proofs.judge.mend.Tie as tie
+use Rattle.judge.proofs.mend.Statement.{statement}
+use Rattle.judge.proofs.mend.Tie as tie
 
 abbrev Inv-loop : tie.InvT-loop
 Inv-loop out₀ left₀ position₀ out left position = Mending out₀ position₀ left₀ out position left

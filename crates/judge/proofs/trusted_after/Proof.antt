@@ -1,10 +1,10 @@
--- `receiver::judge::trusted_after` meets its contract.
+-- `judge::trusted_after` meets its contract.
 -- Assumes nothing.
 use Prim.Native.Nat.{_-_}
 use borrow.Author.Tests.{eq-eqb, ne-eqb}
-use Rattle.receiver.specs.Judge.{trustedAfter}
-use Rattle.receiver.proofs.judge.trusted_after.Statement.{statement}
-use Rattle.receiver.proofs.judge.trusted_after.Tie as tie
+use Rattle.judge.specs.Judge.{trustedAfter}
+use Rattle.judge.proofs.trusted_after.Statement.{statement}
+use Rattle.judge.proofs.trusted_after.Tie as tie
 
 returns : tie.Need-returns
 unfolding trustedAfter

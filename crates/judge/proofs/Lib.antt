@@ -1,0 +1,4 @@
+-- Laws of verdicts and repairs.
+pub mod Mending
+pub mod Verdicts
+pub mod Judging
