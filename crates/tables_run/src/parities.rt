@@ -49,32 +49,39 @@ fn write_row(label: &[u8], row: u64, value: u32, printed: u64, digits: usize)
     text::write_value(value as u64, digits, printed, digits);
 }
 
+fn write_crc12(row: u64, octets: &[u8], printed: u64) {
+    write_row(b"table 52 block ", row, Crc12::of(octets), printed, 3);
+}
+
 pub(crate) fn write_crc12_blocks() {
     let blocks = BLOCKS;
-    write_row(b"table 52 block ", 0, Crc12::of(&blocks[..8]), 0xD00, 3);
-    write_row(b"table 52 block ", 1, Crc12::of(&blocks[..16]), 0x11C, 3);
-    write_row(b"table 52 block ", 2, Crc12::of(&blocks[..24]), 0xFE4, 3);
-    write_row(b"table 52 block ", 3, Crc12::of(&blocks[..32]), 0x5FE, 3);
+    write_crc12(0, &blocks[..8], 0xD00);
+    write_crc12(1, &blocks[..16], 0x11C);
+    write_crc12(2, &blocks[..24], 0xFE4);
+    write_crc12(3, &blocks[..32], 0x5FE);
+}
+
+fn write_fec(label: &[u8], row: u64, octets: &[u8], printed: u64) {
+    write_row(label, row, Fec::of(octets), printed, 7);
 }
 
 pub(crate) fn write_fec_blocks() {
+    let label = b"table 54 block ";
     let blocks = BLOCKS;
-    write_row(b"table 54 block ", 0, Fec::of(&blocks[..8]), 0x22A43C3, 7);
-    write_row(b"table 54 block ", 1, Fec::of(&blocks[..16]), 0x05DFF66, 7);
-    write_row(b"table 54 block ", 2, Fec::of(&blocks[..24]), 0x07171AB, 7);
-    write_row(b"table 54 block ", 3, Fec::of(&blocks[..32]), 0x01957FD, 7);
+    write_fec(label, 0, &blocks[..8], 0x22A43C3);
+    write_fec(label, 1, &blocks[..16], 0x05DFF66);
+    write_fec(label, 2, &blocks[..24], 0x07171AB);
+    write_fec(label, 3, &blocks[..32], 0x01957FD);
 }
 
 // The first bit alone, every bit, the last bit alone.
 pub(crate) fn write_fec_multiblocks() {
+    let label = b"table 55 multiblock ";
     let mut octets = [0u8; 256];
     octets[0] = 0x80;
-    let first = Fec::of(&octets[..]);
-    write_row(b"table 55 multiblock ", 0, first, 0x235011A, 7);
-    let all = Fec::of(&[255u8; 256]);
-    write_row(b"table 55 multiblock ", 1, all, 0x3C7FFE3, 7);
+    write_fec(label, 0, &octets[..], 0x235011A);
+    write_fec(label, 1, &[255u8; 256], 0x3C7FFE3);
     octets[0] = 0;
     octets[255] = 1;
-    let last = Fec::of(&octets[..]);
-    write_row(b"table 55 multiblock ", 2, last, 0x0220211, 7);
+    write_fec(label, 2, &octets[..], 0x0220211);
 }

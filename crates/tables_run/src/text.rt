@@ -18,25 +18,20 @@ pub(crate) fn write(text: &[u8]) {
 pub(crate) fn write_hex(value: u64, digits: usize)
     requires { ⌜ digits ≤ 16 ⌝ }
 {
-    let text = [
-        hex(value >> 60),
-        hex(value >> 56),
-        hex(value >> 52),
-        hex(value >> 48),
-        hex(value >> 44),
-        hex(value >> 40),
-        hex(value >> 36),
-        hex(value >> 32),
-        hex(value >> 28),
-        hex(value >> 24),
-        hex(value >> 20),
-        hex(value >> 16),
-        hex(value >> 12),
-        hex(value >> 8),
-        hex(value >> 4),
-        hex(value),
-    ];
-    write(&text[16 - digits..]);
+    let mut left = digits;
+    while left > 0 {
+        left -= 1;
+        let digit = [hex(value >> (4 * left))];
+        write(&digit);
+    }
+}
+
+// The same, and a space.
+pub(crate) fn write_field(value: u64, digits: usize)
+    requires { ⌜ digits ≤ 16 ⌝ }
+{
+    write_hex(value, digits);
+    write(b" ");
 }
 
 // A number below 100 in decimal.

@@ -4,24 +4,25 @@ use crate::text;
 use frame::sync;
 ghost use Prim.Native.Nat.{_<_, _≤_};
 
+// The parity and the command read from a sync word.
+fn write_read(mode: u8, word: u32) {
+    text::write(b"read ");
+    text::write_field(sync::parity(mode, word) as u64, 7);
+    text::write_hex(sync::command(mode, word, 0) as u64, 2);
+    text::write(b"\n");
+}
+
 // The sync word of the three fields, and the parity and command read from it.
 fn write_word(mode: u8, parity: u32, command: u32, mark: bool) {
     text::write(b"sync word ");
-    text::write_hex(mode as u64, 1);
-    text::write(b" ");
-    text::write_hex(parity as u64, 7);
-    text::write(b" ");
-    text::write_hex(command as u64, 2);
-    text::write(b" ");
-    text::write_hex(mark as u64, 1);
+    text::write_field(mode as u64, 1);
+    text::write_field(parity as u64, 7);
+    text::write_field(command as u64, 2);
+    text::write_field(mark as u64, 1);
     let word = sync::word(mode, parity, command, mark);
-    text::write(b" -> ");
-    text::write_hex(word as u64, 8);
-    text::write(b" read ");
-    text::write_hex(sync::parity(mode, word) as u64, 7);
-    text::write(b" ");
-    text::write_hex(sync::command(mode, word, 0) as u64, 2);
-    text::write(b"\n");
+    text::write(b"-> ");
+    text::write_field(word as u64, 8);
+    write_read(mode, word);
 }
 
 // Each bit of a parity alone.
