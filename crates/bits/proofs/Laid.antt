@@ -111,6 +111,14 @@ laid-start : (new old : List ℕ) → length new ≤ length old → laidAt new 0
 unfolding laid
 laid-start new old h = fits new 0 old (omega arith) ∙ ap (λ (x : ℕ). new ++ drop x old) (zero-add (length new))
 
+-- one more stored behind what was laid
+pub laid-set : (new old : List ℕ) (x : ℕ) → length new < length old → set (laid new old) (length new) x ≡ laid (new ++ x ∷ []) old
+laid-set new old x h =
+    laid-octet (length new) x (laid new old) (omega (arith, length-laid new old (omega arith)))
+    ∙ ap₂ (laidAt (x ∷ [])) (sym (zero-add (length new))) (sym (laid-start new old (omega arith)))
+    ∙ laidAt-join new (x ∷ []) 0 old (omega arith)
+    ∙ laid-start (new ++ x ∷ []) old (omega (arith, length-append new (x ∷ [])))
+
 module _ (f : ℕ → ℕ) where
   -- n octets of a stream, from octet k on
   abbrev pub octetsFrom : ℕ → ℕ → List ℕ
