@@ -8,7 +8,7 @@ use native.Mathlib.Omega.{arith}
 use lib.ListN.{length, getD, List·getD-eq-default}
 use lib.Arith.{digits-lt}
 use lib.Pow.{pow-pos, shr-shr, high, low, field, mod-pow-add, mod-mod-pow}
-use lib.Bits.{bitXor}
+use lib.Bits.{bitAnd, bitXor, and-block}
 use Rattle.bits.specs.Order.{bitAt, number, digit}
 use Rattle.bits.proofs.Xor.{xor-digit}
 
@@ -93,7 +93,7 @@ low-digit v w k h =
     ∙ ap (λ (x : ℕ). v / 2 ^ k % 2 ^ x % 2) {x = w - k} {y = w - k - 1 + 1} (omega arith)
     ∙ mod-mod-pow (v / 2 ^ k) (w - k - 1) 1
 
--- exclusive or goes through
+-- exclusive or goes through, and so does "and"
 pub number-xor : (f g : ℕ → ℕ) → ((k : ℕ) → f k < 2) → ((k : ℕ) → g k < 2) → (k n : ℕ)
     → number (λ j. bitXor (f j) (g j)) k n ≡ bitXor (number f k n) (number g k n)
 unfolding number
@@ -101,6 +101,14 @@ number-xor f g d e k zero = refl
 number-xor f g d e k (suc n) =
     ap (λ (x : ℕ). x * 2 + bitXor (f (k + n)) (g (k + n))) (number-xor f g d e k n)
     ∙ sym (xor-digit (number f k n) (number g k n) (f (k + n)) (g (k + n)) (d (k + n)) (e (k + n)))
+
+pub number-and : (f g : ℕ → ℕ) → ((k : ℕ) → f k < 2) → ((k : ℕ) → g k < 2) → (k n : ℕ)
+    → number (λ j. bitAnd (f j) (g j)) k n ≡ bitAnd (number f k n) (number g k n)
+unfolding number
+number-and f g d e k zero = refl
+number-and f g d e k (suc n) =
+    ap (λ (x : ℕ). x * 2 + bitAnd (f (k + n)) (g (k + n))) (number-and f g d e k n)
+    ∙ sym (and-block 1 (number f k n) (number g k n) (f (k + n)) (g (k + n)) (d (k + n)) (e (k + n)))
 
 -- ---- octets
 
