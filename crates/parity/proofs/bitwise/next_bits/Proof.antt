@@ -3,6 +3,7 @@
 use borrow.Author.Needs.{needs}
 use Prim.Native.Nat.{ℕ, _-_, _^_, _≤_, _<_}
 use mathlib.Core.Path.{_≡_, refl, sym, ap, _∙_}
+use native.Mathlib.Omega.{arith}
 use Rattle.bits.specs.Order.{digits}
 use Rattle.polynomial.specs.Remainder.{remainderFrom}
 use Rattle.polynomial.proofs.Remainder.{next-lt}
@@ -42,14 +43,14 @@ loop-again c =
       search needs,
       rw e (next-lt (a .w) (a .g) (c .before .before .before .pre .1) (l .s) _),
       ap (λ (s : ℕ). remainderFrom (a .w) (a .g) s (digits (l .k - 1) (a .word))) e
-          ∙ next-digit (a .w) (a .g) (l .s) (l .k) (a .word) (c .before .loop-test .taken) ∙ l .inv .2,
+          ∙ next-digit (a .w) (a .g) (l .s) (l .k) (a .word) (omega arith) ∙ l .inv .2,
     )
 
 returns : tie.Need-returns Inv-loop μ-loop
 returns c =
     let l = c .before .loop in
     let a = c .before .before .args in
-    sym (no-digits (a .w) (a .g) (l .s) (l .k) (a .word) (c .loop-test .left)) ∙ l .inv .2
+    sym (no-digits (a .w) (a .g) (l .s) (l .k) (a .word) (omega arith)) ∙ l .inv .2
 
 pub next-bits-spec : {M : Type 1} → statement M
 next-bits-spec =
