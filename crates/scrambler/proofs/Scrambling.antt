@@ -12,10 +12,11 @@ use lib.Dec.{leb, le→leb, leb→le, not-T}
 use lib.ListN.{length, getD}
 use lib.Pow.{pow-pos, shr-shr, high, low, mod-mod-pow, mod-pow-add}
 use lib.Bits.{bitXor, xor-lt, xor-self, xor-zero-r}
-use Rattle.bits.specs.Order.{bitAt, number}
+use Rattle.bits.specs.Order.{bitAt, number, wordsOf, octetsIn}
 use Rattle.bits.proofs.Xor.{xor-assoc}
 use Rattle.bits.proofs.Numbers.{low-digit, bitAt-lt, number-lt, number-ext, number-octet}
 use Rattle.bits.proofs.Octets.{length-octetsOf, getD-octetsOf, bit-octetsOf}
+use Rattle.bits.proofs.WordLists.{octetsIn-wordsOf}
 use Rattle.bits.proofs.Choice.{pick-true, pick-false}
 use Rattle.scrambler.specs.Scrambling.{sentBit, allSent, sent, historyAfter, earlier, plain, scrambled, descrambled}
 
@@ -287,6 +288,11 @@ unfolding scrambled
 scrambled-lt octets history n j h =
     subst (λ (x : ℕ). x < 256) (sym (getD-octetsOf (sent (bitAt octets) history) n j h))
     (number-lt (sent (bitAt octets) history) (sent-lt (bitAt octets) (bitAt-lt octets) history) (8 * j) 8)
+
+-- the words sent hold the scrambled octets
+pub scrambled-words : (octets : List ℕ) (history n : ℕ) → octetsIn (wordsOf (sent (bitAt octets) history) n) ≡ scrambled octets history (8 * n)
+unfolding scrambled
+scrambled-words octets history n = octetsIn-wordsOf (sent (bitAt octets) history) (sent-lt (bitAt octets) (bitAt-lt octets) history) n
 
 -- octets that carry what was sent of a user's octets from octet a on are descrambled to these: all of them after the right history, and
 -- all but the first eight after any
