@@ -4,7 +4,7 @@ ghost use Prim.Native.Nat.{_%_, _^_, _≤_};
 ghost use lib.Dec.{eqb};
 ghost use lib.ListN.{length};
 ghost use Rattle.bits.specs.Choice.{pick};
-ghost use Rattle.bits.specs.Order.{bitAt, digit, number, wordsOf, laid};
+ghost use Rattle.bits.specs.Order.{bitAt, digit, number, octetsOf, wordBit, wordsOf, laid};
 ghost use Rattle.bits.specs.Parts.{refusalOf, written};
 ghost use Rattle.scrambler.specs.Scrambling.{sent, plain, descrambled, historyAfter};
 
@@ -76,14 +76,24 @@ pub fn scramble_multiblock(user: &[u8], history: u64, out: &mut [u64]) -> Turned
     }
 }
 
-// The 32 blocks of a multiblock, each after the block received before.
-fn descramble_blocks(octets: &[u8], history: u64, out: &mut [u8])
-    requires { ⌜ 256 ≤ length (now out) ⌝ }
-    ensures { λ _. ⌜ now (out .exit) ≡ laid (descrambled (now (octets .entry)) history 256) (now (out .entry)) ⌝ }
+// The 32 blocks of a multiblock received, a word each.
+fn blocks_of(octets: &[u8], blocks: &mut [u64])
+    requires { ⌜ 32 ≤ length (now blocks) ⌝ }
+    ensures { λ _. ⌜ now (blocks .exit) ≡ laid (wordsOf (bitAt (now (octets .entry))) 32) (now (blocks .entry)) ⌝ }
+{
+    for i in 0..32usize {
+        blocks[i] = bits::word_at(octets, 8 * i);
+    }
+}
+
+// Each of them descrambled after the block before. They come as words, since the compiler takes octets that it sees shifted one by one.
+fn descramble_blocks(blocks: &[u64], history: u64, out: &mut [u8])
+    requires { ⌜ (32 ≤ length (now blocks)) × (256 ≤ length (now out)) ⌝ }
+    ensures { λ _. ⌜ now (out .exit) ≡ laid (octetsOf (plain history (wordBit (now (blocks .entry)))) 256) (now (out .entry)) ⌝ }
 {
     let mut past = history_after(history);
     for i in 0..32usize {
-        let block = bits::word_at(octets, 8 * i);
+        let block = blocks[i];
         bits::put_word(out, 8 * i, descramble(block, past));
         past = history_after(block);
     }
@@ -100,7 +110,9 @@ pub fn descramble_multiblock(octets: &[u8], history: u64, out: &mut [u8]) -> u8
     if out.len() < 256 {
         return 7;
     }
-    descramble_blocks(octets, history, out);
+    let mut blocks = [0u64; 32];
+    blocks_of(octets, &mut blocks[..]);
+    descramble_blocks(&blocks[..], history, out);
     0
 }
 
