@@ -1,7 +1,7 @@
 -- Words made of a stream's bits have those bits, and their octets are the stream's: document 01, "From octets to lane bits". Assumes nothing.
 use mathlib.Core.Path.{_≡_, refl, sym, ap, ap₂, _∙_}
 use mathlib.Core.List.{List, [], _∷_, _++_}
-use Prim.Native.Nat.{ℕ, _+_, _-_, _*_, _/_, _%_, _^_, _≤_, _<_}
+use Prim.Native.Nat.{ℕ, _+_, _-_, _*_, _/_, _%_, _^_, _<_}
 use native.Mathlib.Nat.{zero-add, mod-eq-of-lt}
 use native.Mathlib.Omega.{arith}
 use lib.ListN.{length, getD, set}
@@ -9,7 +9,7 @@ use Rattle.bits.specs.Order.{bitAt, run, bitsOf, number, digit, octetsOf
 use Rattle.bits.proofs.Numbers.{digit-lt, digit-number, number-ext, number-whole}
 use Rattle.bits.proofs.Runs.{run-ext, run-append, length-run, getD-run}
 use Rattle.bits.proofs.Octets.{length-octetsOf, bit-octetsOf, octetsOf-ext}
-use Rattle.bits.proofs.Laid.{length-laid, laid-set}
+use Rattle.bits.proofs.Laid.{laid-set}
 
 module _ (words : List ℕ) where
   pub wordBit-lt : (k : ℕ) → wordBit words k < 2
@@ -56,7 +56,7 @@ module _ (f : ℕ → ℕ) where
   unfolding wordsOf
   getD-wordsOf n i h = getD-run (λ i. number f (64 * i) 64) 0 n i h ∙ ap (λ (x : ℕ). number f (64 * x) 64) (zero-add i)
 
-  -- laid over others: none, one more stored, and no longer than before
+  -- laid over others: none, and one more stored
   pub words-none : (old : List ℕ) → old ≡ laid (wordsOf f 0) old
   unfolding laid wordsOf run
   words-none old = refl
@@ -66,9 +66,6 @@ module _ (f : ℕ → ℕ) where
       ap (λ (x : ℕ). set (laid (wordsOf f i) old) x word) (sym (length-wordsOf i))
       ∙ laid-set (wordsOf f i) old word (omega (arith, length-wordsOf i))
       ∙ ap (λ (x : List ℕ). laid x old) (unfold wordsOf run in (ap (λ (x : ℕ). wordsOf f i ++ x ∷ []) (e ∙ ap (λ (x : ℕ). number f (64 * x) 64) (sym (zero-add i))) ∙ sym (run-append (λ i. number f (64 * i) 64) 0 i 1)))
-
-  pub length-laid-words : (n : ℕ) (old : List ℕ) → n ≤ length old → length (laid (wordsOf f n) old) ≡ length old
-  length-laid-words n old h = length-laid (wordsOf f n) old (omega (arith, length-wordsOf n))
 
   module _ (bits : (k : ℕ) → f k < 2) where
     pub bit-wordsOf : (n k : ℕ) → k < 64 * n → wordBit (wordsOf f n) k ≡ f k
