@@ -20,6 +20,24 @@ pub digit-lt : (n v j : ℕ) → digit n v j < 2
 unfolding digit
 digit-lt n v j = mod-lt (v / 2 ^ (n - 1 - j)) (zero-lt-suc 1)
 
+pub digit-is : (n v j : ℕ) → digit n v j ≡ v / 2 ^ (n - 1 - j) % 2
+unfolding digit
+digit-is n v j = refl
+
+module _ (f : ℕ → ℕ) (k : ℕ) where
+  -- no bits, one more, and two
+  pub number-none : 0 ≡ number f k 0
+  unfolding number
+  number-none = refl
+
+  pub number-more : (n : ℕ) → number f k (n + 1) ≡ number f k n * 2 + f (k + n)
+  unfolding number
+  number-more n = ap (number f k) (add-one n)
+
+  pub number-two : number f k 2 ≡ f k * 2 + f (k + 1)
+  unfolding number
+  number-two = omega (arith, ap f (add-zero k))
+
 module _ (f : ℕ → ℕ) where
   -- a run of a + b bits is a run of a and then one of b
   pub number-split : (k a b : ℕ) → number f k (a + b) ≡ number f k a * 2 ^ b + number f (k + a) b
@@ -59,6 +77,12 @@ module _ (f : ℕ → ℕ) where
         ∙ ap (λ (x : ℕ). x / 2 ^ (n - 1 - j) % 2) (number-split k (suc j) (n - 1 - j))
         ∙ ap (λ (x : ℕ). x % 2) (high (number f k (suc j)) (n - 1 - j) (number-lt (k + suc j) (n - 1 - j)))
         ∙ low (number f k j) 1 (d (k + j))
+
+-- all ones
+pub number-ones : (k n : ℕ) → number (λ j. 1) k n ≡ 2 ^ n - 1
+unfolding number
+number-ones k zero = refl
+number-ones k (suc n) = omega (arith, number-ones k n, pow-suc 2 n, pow-pos n)
 
 -- equal bits, equal numbers
 pub number-ext : (f g : ℕ → ℕ) (k l n : ℕ) → ((j : ℕ) → j < n → f (k + j) ≡ g (l + j)) → number f k n ≡ number g l n

@@ -4,8 +4,7 @@ use mathlib.Core.Bool.{Bool, true, false}
 use mathlib.Core.List.{List}
 use mathlib.Core.Path.{_≡_, refl, sym, ap, ap₂, _∙_, subst}
 use Prim.Native.Nat.{ℕ, zero, suc, _+_, _-_, _*_, _/_, _%_, _^_, _≤_, _<_}
-use native.Mathlib.Nat.{add-zero, zero-add, add-mul, mul-assoc, mul-mod-left, mod-eq-of-lt}
-use native.Mathlib.Numerals.{add-one}
+use native.Mathlib.Nat.{add-zero, zero-add, add-mul, mul-assoc, mul-mod-left, mod-eq-of-lt, div-add-mod'}
 use native.Mathlib.Omega.{arith}
 use borrow.Author.Tests.{eq-eqb, ne-eqb}
 use lib.Bits.{bitAnd, bitOr, bitXor, and-mask, or-shifted, xor-lt}
@@ -13,7 +12,7 @@ use lib.Dec.{eqb, lit≤}
 use lib.Pow.{pow-add, high, low, field, mod-pow-add, mod-mod-pow, shl-exact, shl-lt, shl-shr, shr-lt, shr-shr}
 use Rattle.bits.specs.Choice.{pick}
 use Rattle.bits.specs.Order.{bitAt, digit, number, octetsOf}
-use Rattle.bits.proofs.Numbers.{number-split, number-lt, number-low, number-high, number-ext, number-and, number-xor, digit-number, number-digit}
+use Rattle.bits.proofs.Numbers.{digit-is, number-more, number-two, number-ones, number-split, number-lt, number-low, number-high, number-ext, number-and, number-xor, digit-number, number-digit}
 use Rattle.frame.specs.Headers.{value, carries, spoilt, headerOf}
 use Rattle.frame.specs.Lane.{blockWidth, laneOctets, headerPlace, dataPlace, headerAt, syncBit, spoiltBit, dataBit, dataOctets, blockBit, multiblockBit, multiblock}
 use Rattle.frame.proofs.Lane.{header-lt, multiblockBit-lt, multiblock-at, block-data}
@@ -65,12 +64,11 @@ secondBit lane t = headerAt 0 lane 0 t % 2
 
 -- bits << 1 | bit
 bit-more : (f : ℕ → ℕ) → ((k : ℕ) → f k < 2) → (n word bit : ℕ) → n < 32 → word ≡ number f 0 n → bit ≡ f n → bitOr (word * 2 ^ 1 % 2 ^ 32) bit ≡ number f 0 (n + 1)
-unfolding number
 bit-more f bits n word bit h ew eb =
     ap (λ (x : ℕ). bitOr x bit) (shl-exact n 1 32 (subst (λ (x : ℕ). x < 2 ^ n) (sym ew) (number-lt f bits 0 n)) (omega arith))
     ∙ or-shifted word 1 bit (subst (λ (x : ℕ). x < 2) (sym eb) (bits n))
     ∙ ap₂ (λ (x y : ℕ). x * 2 + y) ew (eb ∙ ap f (sym (zero-add n)))
-    ∙ ap (number f 0) (sym (add-one n))
+    ∙ sym (number-more f 0 n)
 
 module _ (lane : ℕ → ℕ) (bits : (k : ℕ) → lane k < 2) where
   first-lt : (t : ℕ) → firstBit lane t < 2
@@ -92,11 +90,12 @@ module _ (lane : ℕ → ℕ) (bits : (k : ℕ) → lane k < 2) where
 
     module _ (header : ℕ) (eh : header ≡ number (digit 64 word) (2 * b) 2) where
       header-read : header ≡ headerAt 0 lane 0 b
-      unfolding number headerAt headerPlace blockWidth value
+      unfolding headerAt headerPlace blockWidth value
       header-read =
-          let bit : (j : ℕ) → j < 2 → digit 64 word (2 * b + j) ≡ lane (66 * (32 * 0 + b) + j) =
-          λ j q. ap (λ (x : ℕ). digit 64 x (2 * b + j)) ew ∙ digit-number lane bits (64 * b) 64 (2 * b + j) (omega arith) ∙ ap lane (omega arith) in
-          let first : lane (66 * (32 * 0 + b) + 0) ≡ lane (66 * (32 * 0 + b)) = ap lane (omega arith) in omega (arith, bit 0 (lit≤ tt), bit 1 (lit≤ tt))
+          eh
+          ∙ number-ext (digit 64 word) lane (2 * b) (66 * (32 * 0 + b)) 2
+          (λ j q. ap (λ (x : ℕ). digit 64 x (2 * b + j)) ew ∙ digit-number lane bits (64 * b) 64 (2 * b + j) (omega arith) ∙ ap lane (omega arith))
+          ∙ number-two lane (66 * (32 * 0 + b))
 
       pub first-more : (first : ℕ) → first ≡ number (firstBit lane) 0 b → bitOr (first * 2 ^ 1 % 2 ^ 32) (header / 2 ^ 1) ≡ number (firstBit lane) 0 (b + 1)
       first-more first e = bit-more (firstBit lane) first-lt b first (header / 2 ^ 1) h e (ap (λ (x : ℕ). x / 2) header-read)
@@ -137,12 +136,13 @@ module _ (lane : ℕ → ℕ) (bits : (k : ℕ) → lane k < 2) where
         ∙ number-and (secondBit lane) valid second-lt valid-lt 0 32)
 
     pub spoilt-read : bitXor (bitXor first second) 0xffffffff ≡ number (spoiltBit 0 lane 0) 0 32
-    unfolding valid spoiltBit spoilt number
+    unfolding valid spoiltBit spoilt
     spoilt-read =
         ap (λ (x : ℕ). bitXor x 0xffffffff) all-valid
         ∙ sym (number-ext (spoiltBit 0 lane 0) (λ t. bitXor (valid t) 1) 0 0 32
         (λ j q. header-cases (λ (v : ℕ). spoilt v ≡ bitXor (bitXor (v / 2) (v % 2)) 1) refl refl refl refl (0 + j))
-        ∙ number-xor valid (λ t. 1) valid-lt (λ t. lit≤ tt) 0 32)
+        ∙ number-xor valid (λ t. 1) valid-lt (λ t. lit≤ tt) 0 32
+        ∙ ap (bitXor (number valid 0 32)) (number-ones 0 32))
 
 pub octets-read : (lane : ℕ → ℕ) (b : ℕ) → b ≡ 32 → octetsOf (dataBit 0 lane 0) (8 * b) ≡ dataOctets 0 lane 0
 unfolding dataOctets
@@ -153,8 +153,7 @@ octets-read lane b e = ap (λ (x : ℕ). octetsOf (dataBit 0 lane 0) (8 * x)) e
 -- the header that carries bit b of a sync word, found by a shift
 module _ (sync b : ℕ) where
   sync-bit : digit 32 sync b ≡ bitAnd (sync / 2 ^ (31 - b)) 1
-  unfolding digit
-  sync-bit = sym (and-mask (sync / 2 ^ (31 - b)) 1)
+  sync-bit = digit-is 32 sync b ∙ sym (and-mask (sync / 2 ^ (31 - b)) 1)
 
   pub header-of-one : bitAnd (sync / 2 ^ (31 - b)) 1 ≡ 1 → headerOf (digit 32 sync b) ≡ 1
   unfolding headerOf
@@ -199,8 +198,11 @@ module _ (sync : ℕ) (octets : List ℕ) where
   bits = multiblockBit-lt 0 sync octets
 
   header-written : (b : ℕ) → number lane (66 * b) 2 ≡ headerOf (digit 32 sync b)
-  unfolding lane number blockBit blockWidth
-  header-written b = omega (arith, multiblock-at 0 sync octets b 0 (omega arith), multiblock-at 0 sync octets b 1 (omega arith))
+  unfolding lane blockBit blockWidth
+  header-written b =
+      number-two lane (66 * b)
+      ∙ ap₂ (λ (x y : ℕ). x * 2 + y) (ap lane (sym (add-zero (66 * b))) ∙ multiblock-at 0 sync octets b 0 (omega arith)) (multiblock-at 0 sync octets b 1 (omega arith))
+      ∙ div-add-mod' (headerOf (digit 32 sync b)) 2
 
   data-written : (b : ℕ) → number lane (66 * b + 2) 64 ≡ number (bitAt octets) (64 * b) 64
   unfolding lane blockWidth

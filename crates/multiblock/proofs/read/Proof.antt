@@ -8,7 +8,7 @@ use native.Mathlib.Omega.{arith}
 use lib.ListN.{length}
 use denote.Ref.{now}
 use Rattle.bits.specs.Order.{bitAt, digit, number, octetsOf, laid, laidAt}
-use Rattle.bits.proofs.Numbers.{bitAt-lt}
+use Rattle.bits.proofs.Numbers.{bitAt-lt, number-none}
 use Rattle.bits.proofs.Laid.{laid-none, laid-word, length-laid-octets}
 use Rattle.bits.proofs.Parts.{few-given, few-lent, not-refused, untouched, answered}
 use Rattle.frame.specs.Lane.{dataBit, dataOctets}
@@ -44,7 +44,7 @@ word-at-requires c κs = search needs
 loop-holds : tie.Need-loop-holds Inv-loop μ-loop
 loop-holds c =
     let a = c .before .before .before .before .before .args in
-    (search needs, unfold number in refl, unfold number in refl, c .word-at .ensures, laid-none (dataBit 0 (bitAt (now (a .lane))) 0) (now (a .octets)))
+    let lane = bitAt (now (a .lane)) in (search needs, number-none (firstBit lane) 0, number-none (secondBit lane) 0, c .word-at .ensures, laid-none (dataBit 0 lane 0) (now (a .octets)))
 
 add-word-at : tie.Need-add-word-at Inv-loop μ-loop
 add-word-at c = search needs

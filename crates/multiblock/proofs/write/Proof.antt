@@ -9,6 +9,7 @@ use lib.Dec.{lit≤}
 use lib.ListN.{length, getD}
 use denote.Ref.{now}
 use Rattle.bits.specs.Order.{bitAt, digit, number, octetsOf, octetsIn, laid, laidAt}
+use Rattle.bits.proofs.Numbers.{number-none}
 use Rattle.bits.proofs.Laid.{laid-none, laid-word, length-laid-octets}
 use Rattle.bits.proofs.Parts.{few-given, few-lent, not-refused, untouched, answered}
 use Rattle.bits.proofs.WordLists.{number-octetsIn}
@@ -40,10 +41,9 @@ returns-2 c =
     (sym (few-lent 32 (now (a .words)) 264 (now (a .lane)) (omega arith) (omega arith)), sym (untouched 7 (multiblock 0 (a .sync) (octetsIn (now (a .words)))) (now (a .lane)) (λ e. omega arith)))
 
 loop-holds : tie.Need-loop-holds Inv-loop μ-loop
-unfolding number
 loop-holds c =
     let a = c .before .before .before .before .args in
-    (search needs, lit≤ tt, refl, laid-none (multiblockBit 0 (a .sync) (octetsIn (now (a .words)))) (now (a .lane)))
+    let lane = multiblockBit 0 (a .sync) (octetsIn (now (a .words))) in (search needs, lit≤ tt, number-none lane 0, laid-none lane (now (a .lane)))
 
 mul-own : tie.Need-mul-own Inv-loop μ-loop
 mul-own c = search needs
