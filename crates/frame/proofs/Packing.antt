@@ -17,7 +17,7 @@ use Rattle.frame.specs.Headers.{value, carries, spoilt, headerOf}
 use Rattle.frame.specs.Lane.{blockWidth, laneOctets, headerPlace, dataPlace, headerAt, syncBit, spoiltBit, dataBit, dataOctets, blockBit, multiblockBit, multiblock}
 use Rattle.frame.proofs.Lane.{header-lt, multiblockBit-lt, multiblock-at, block-data}
 
--- two shifts left, one after the other, drop what leaves the word
+-- a shift left drops what leaves the word, and so do two
 shift-left : (x t : ℕ) → t ≤ 64 → x * 2 ^ t % 2 ^ 64 ≡ x % 2 ^ (64 - t) * 2 ^ t
 shift-left x t h =
     ap (λ (z : ℕ). x * 2 ^ t % 2 ^ z) {x = 64} {y = 64 - t + t} (omega arith)
@@ -78,10 +78,10 @@ module _ (lane : ℕ → ℕ) (bits : (k : ℕ) → lane k < 2) where
   second-lt t = omega arith
 
   -- block b, of word b and the next
-  module _ (b word next : ℕ) (h : b < 32) (ew : word ≡ number lane (64 * b) 64) where
-    pub data-read : (block : ℕ) → next ≡ number lane (64 * (b + 1)) 64 → block ≡ number (digit 128 (word * 2 ^ 64 + next)) (2 * b + 2) 64 → block ≡ number (dataBit 0 lane 0) (64 * b) 64
+  module _ (b word : ℕ) (h : b < 32) (ew : word ≡ number lane (64 * b) 64) where
+    pub data-read : (next block : ℕ) → next ≡ number lane (64 * (b + 1)) 64 → block ≡ number (digit 128 (word * 2 ^ 64 + next)) (2 * b + 2) 64 → block ≡ number (dataBit 0 lane 0) (64 * b) 64
     unfolding dataBit dataPlace headerPlace blockWidth
-    data-read block en eb =
+    data-read next block en eb =
         let both : word * 2 ^ 64 + next ≡ number lane (64 * b) 128 =
         ap₂ (λ (x y : ℕ). x * 2 ^ 64 + y) ew (en ∙ ap (λ (x : ℕ). number lane x 64) {x = 64 * (b + 1)} {y = 64 * b + 64} (omega arith)) ∙ sym (number-split lane (64 * b) 64 64) in
         eb

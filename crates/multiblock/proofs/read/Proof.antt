@@ -84,13 +84,13 @@ loop-again c =
     let block = c .before .before .before .data-in in
     let place : next .result ≡ number lane (64 * (l .block + 1)) 64 = next .ensures ∙ ap (λ (x : ℕ). number lane x 64) (omega arith) in (
       search needs,
-      first-more lane bits (l .block) (l .word) (next .result) (omega arith) (l .inv .3) (header .result) (header .ensures) (l .first) (l .inv .1),
-      second-more lane bits (l .block) (l .word) (next .result) (omega arith) (l .inv .3) (header .result) (header .ensures) (l .second) (l .inv .2),
+      first-more lane bits (l .block) (l .word) (omega arith) (l .inv .3) (header .result) (header .ensures) (l .first) (l .inv .1),
+      second-more lane bits (l .block) (l .word) (omega arith) (l .inv .3) (header .result) (header .ensures) (l .second) (l .inv .2),
       place,
       c .before .before .put-word .ensures
           ∙ ap (laidAt (octetsOf (digit 64 (block .result)) 8) (8 * l .block)) (l .inv .4)
           ∙ laid-word (dataBit 0 lane 0) (dataBit-lt 0 lane bits 0) (l .block) (block .result) (now (a .octets)) (omega arith)
-          (data-read lane bits (l .block) (l .word) (next .result) (omega arith) (l .inv .3) (block .result) place (block .ensures)),
+          (data-read lane bits (l .block) (l .word) (omega arith) (l .inv .3) (next .result) (block .result) place (block .ensures)),
     )
 
 same-length : tie.Need-same-length Inv-loop μ-loop
