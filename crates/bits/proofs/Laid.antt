@@ -69,7 +69,7 @@ store-half old at word h =
     ∙ sym (ap (λ (x : List ℕ). laidAt x at old) (half-octets word) ∙ fits _ at old h))
 
 -- one octet stored
-pub laid-octet : (at octet : ℕ) (old : List ℕ) → at < length old → set old at octet ≡ laidAt (octet ∷ []) at old
+laid-octet : (at octet : ℕ) (old : List ℕ) → at < length old → set old at octet ≡ laidAt (octet ∷ []) at old
 laid-octet at octet old h =
     set-split old at octet h ∙ sym (fits (octet ∷ []) at old (omega arith) ∙ append-snoc (take at old) octet (drop (at + 1) old) ∙ ap (λ (x : ℕ). take at old ++ octet ∷ drop x old) (add-one at))
 
@@ -111,32 +111,33 @@ laid-start : (new old : List ℕ) → length new ≤ length old → laidAt new 0
 unfolding laid
 laid-start new old h = fits new 0 old (omega arith) ∙ ap (λ (x : ℕ). new ++ drop x old) (zero-add (length new))
 
+-- one more stored behind what was laid
+pub laid-set : (new old : List ℕ) (x : ℕ) → length new < length old → set (laid new old) (length new) x ≡ laid (new ++ x ∷ []) old
+laid-set new old x h =
+    laid-octet (length new) x (laid new old) (omega (arith, length-laid new old (omega arith)))
+    ∙ ap₂ (laidAt (x ∷ [])) (sym (zero-add (length new))) (sym (laid-start new old (omega arith)))
+    ∙ laidAt-join new (x ∷ []) 0 old (omega arith)
+    ∙ laid-start (new ++ x ∷ []) old (omega (arith, length-append new (x ∷ [])))
+
 module _ (f : ℕ → ℕ) where
   -- n octets of a stream, from octet k on
-  abbrev pub octetsFrom : ℕ → ℕ → List ℕ
+  abbrev octetsFrom : ℕ → ℕ → List ℕ
   octetsFrom k n = run (λ j. number f (8 * j) 8) k n
 
-  -- the next m octets of a stream, laid behind n that were laid from a place on
-  pub laid-next : (at n m place : ℕ) (new old : List ℕ) → place ≡ at + n → place + m ≤ length old → new ≡ octetsFrom place m
-      → laidAt new place (laidAt (octetsFrom at n) at old) ≡ laidAt (octetsFrom at (n + m)) at old
-  laid-next at n m place new old p h e =
-      let ln = length-run (λ j. number f (8 * j) 8) at n in
-      let lm : length new ≡ m = ap length e ∙ length-run (λ j. number f (8 * j) 8) place m in
-      ap (λ (x : ℕ). laidAt new x (laidAt (octetsFrom at n) at old)) {x = place} {y = at + length (octetsFrom at n)} (omega arith)
-      ∙ laidAt-join (octetsFrom at n) new at old (omega arith)
-      ∙ ap (λ (x : List ℕ). laidAt x at old) (ap (λ (x : List ℕ). octetsFrom at n ++ x) (e ∙ ap (λ (x : ℕ). octetsFrom x m) p) ∙ sym (run-append (λ j. number f (8 * j) 8) at n m))
-
-  -- the same behind its first a
-  pub laid-more : (a n : ℕ) (new old : List ℕ) → a + n ≤ length old → new ≡ octetsFrom a n → laidAt new a (laid (octetsOf f a) old) ≡ laid (octetsOf f (a + n)) old
+  -- the next n octets of a stream, laid behind its first a
+  laid-more : (a n : ℕ) (new old : List ℕ) → a + n ≤ length old → new ≡ octetsFrom a n → laidAt new a (laid (octetsOf f a) old) ≡ laid (octetsOf f (a + n)) old
   unfolding octetsOf
   laid-more a n new old h e =
-      ap (laidAt new a) (sym (laid-start (octetsFrom 0 a) old (omega (arith, length-run (λ j. number f (8 * j) 8) 0 a))))
-      ∙ laid-next 0 a n a new old (sym (zero-add a)) h e
+      let la = length-run (λ j. number f (8 * j) 8) 0 a in
+      let ln : length new ≡ n = ap length e ∙ length-run (λ j. number f (8 * j) 8) a n in
+      ap₂ (laidAt new) {x = a} {y = 0 + length (octetsFrom 0 a)} (omega arith) (sym (laid-start (octetsFrom 0 a) old (omega arith)))
+      ∙ laidAt-join (octetsFrom 0 a) new 0 old (omega arith)
+      ∙ ap (λ (x : List ℕ). laidAt x 0 old) (ap (λ (x : List ℕ). octetsFrom 0 a ++ x) (e ∙ ap (λ (x : ℕ). octetsFrom x n) (sym (zero-add a))) ∙ sym (run-append (λ j. number f (8 * j) 8) 0 a n))
       ∙ laid-start (octetsFrom 0 (a + n)) old (omega (arith, length-run (λ j. number f (8 * j) 8) 0 (a + n)))
 
   module _ (d : (k : ℕ) → f k < 2) where
     -- the octets of a word of its bits
-    pub word-from : (place word : ℕ) → word ≡ number f (8 * place) 64 → octetsOf (digit 64 word) 8 ≡ octetsFrom place 8
+    word-from : (place word : ℕ) → word ≡ number f (8 * place) 64 → octetsOf (digit 64 word) 8 ≡ octetsFrom place 8
     unfolding octetsOf
     word-from place word e =
         run-ext (λ j. number (digit 64 word) (8 * j) 8) (λ j. number f (8 * j) 8) 0 place 8

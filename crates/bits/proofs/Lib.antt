@@ -8,5 +8,6 @@ pub mod Words
 pub mod Tests
 pub mod Laid
 pub mod Octets
+pub mod WordLists
 pub mod Writing
 pub mod Parts

@@ -8,7 +8,7 @@ use native.Mathlib.Omega.{arith}
 use lib.ListN.{length, getD, List·getD-eq-default}
 use lib.Arith.{digits-lt}
 use lib.Pow.{pow-pos, shr-shr, high, low, field, mod-pow-add, mod-mod-pow}
-use lib.Bits.{bitXor}
+use lib.Bits.{bitAnd, bitXor, and-block}
 use Rattle.bits.specs.Order.{bitAt, number, digit}
 use Rattle.bits.proofs.Xor.{xor-digit}
 
@@ -19,6 +19,24 @@ bitAt-lt octets k = mod-lt (getD octets (k / 8) 0 / 2 ^ (7 - k % 8)) (zero-lt-su
 pub digit-lt : (n v j : ℕ) → digit n v j < 2
 unfolding digit
 digit-lt n v j = mod-lt (v / 2 ^ (n - 1 - j)) (zero-lt-suc 1)
+
+pub digit-is : (n v j : ℕ) → digit n v j ≡ v / 2 ^ (n - 1 - j) % 2
+unfolding digit
+digit-is n v j = refl
+
+module _ (f : ℕ → ℕ) (k : ℕ) where
+  -- no bits, one more, and two
+  pub number-none : 0 ≡ number f k 0
+  unfolding number
+  number-none = refl
+
+  pub number-more : (n : ℕ) → number f k (n + 1) ≡ number f k n * 2 + f (k + n)
+  unfolding number
+  number-more n = ap (number f k) (add-one n)
+
+  pub number-two : number f k 2 ≡ f k * 2 + f (k + 1)
+  unfolding number
+  number-two = omega (arith, ap f (add-zero k))
 
 module _ (f : ℕ → ℕ) where
   -- a run of a + b bits is a run of a and then one of b
@@ -60,6 +78,12 @@ module _ (f : ℕ → ℕ) where
         ∙ ap (λ (x : ℕ). x % 2) (high (number f k (suc j)) (n - 1 - j) (number-lt (k + suc j) (n - 1 - j)))
         ∙ low (number f k j) 1 (d (k + j))
 
+-- all ones
+pub number-ones : (k n : ℕ) → number (λ j. 1) k n ≡ 2 ^ n - 1
+unfolding number
+number-ones k zero = refl
+number-ones k (suc n) = omega (arith, number-ones k n, pow-suc 2 n, pow-pos n)
+
 -- equal bits, equal numbers
 pub number-ext : (f g : ℕ → ℕ) (k l n : ℕ) → ((j : ℕ) → j < n → f (k + j) ≡ g (l + j)) → number f k n ≡ number g l n
 unfolding number
@@ -93,7 +117,7 @@ low-digit v w k h =
     ∙ ap (λ (x : ℕ). v / 2 ^ k % 2 ^ x % 2) {x = w - k} {y = w - k - 1 + 1} (omega arith)
     ∙ mod-mod-pow (v / 2 ^ k) (w - k - 1) 1
 
--- exclusive or goes through
+-- exclusive or goes through, and so does "and"
 pub number-xor : (f g : ℕ → ℕ) → ((k : ℕ) → f k < 2) → ((k : ℕ) → g k < 2) → (k n : ℕ)
     → number (λ j. bitXor (f j) (g j)) k n ≡ bitXor (number f k n) (number g k n)
 unfolding number
@@ -101,6 +125,14 @@ number-xor f g d e k zero = refl
 number-xor f g d e k (suc n) =
     ap (λ (x : ℕ). x * 2 + bitXor (f (k + n)) (g (k + n))) (number-xor f g d e k n)
     ∙ sym (xor-digit (number f k n) (number g k n) (f (k + n)) (g (k + n)) (d (k + n)) (e (k + n)))
+
+pub number-and : (f g : ℕ → ℕ) → ((k : ℕ) → f k < 2) → ((k : ℕ) → g k < 2) → (k n : ℕ)
+    → number (λ j. bitAnd (f j) (g j)) k n ≡ bitAnd (number f k n) (number g k n)
+unfolding number
+number-and f g d e k zero = refl
+number-and f g d e k (suc n) =
+    ap (λ (x : ℕ). x * 2 + bitAnd (f (k + n)) (g (k + n))) (number-and f g d e k n)
+    ∙ sym (and-block 1 (number f k n) (number g k n) (f (k + n)) (g (k + n)) (d (k + n)) (e (k + n)))
 
 -- ---- octets
 

@@ -88,6 +88,10 @@ pub dataBit-lt : (gap : ℕ) (lane : ℕ → ℕ) → ((k : ℕ) → lane k < 2)
 unfolding dataBit
 dataBit-lt gap lane bits m q = bits (dataPlace gap m q)
 
+pub header-lt : (gap : ℕ) (lane : ℕ → ℕ) → ((k : ℕ) → lane k < 2) → (m t : ℕ) → headerAt gap lane m t < 4
+unfolding headerAt value
+header-lt gap lane bits m t = omega (arith, bits (headerPlace gap m t), bits (headerPlace gap m t + 1))
+
 pub syncBit-lt : (gap : ℕ) (lane : ℕ → ℕ) (m t : ℕ) → syncBit gap lane m t < 2
 unfolding syncBit carries
 syncBit-lt gap lane m t = pick-lt (eqb (headerAt gap lane m t) 1) (omega arith) (omega arith)

@@ -1,22 +1,23 @@
--- Headers and data of 66-bit blocks gathered and laid down by shifts, across octet edges: clauses 7.1.2 and 7.2.2. Assumes nothing.
-use mathlib.Core.List.{List, [], _∷_}
+-- Headers and data of 66-bit blocks gathered and laid down by shifts, across octet edges: clauses 7.1.2 and 7.2.2. A multiblock is 33 words
+-- of 64 bits: block b begins 2 * b bits into word b and ends in the next. Assumes nothing.
+use mathlib.Core.Bool.{Bool, true, false}
+use mathlib.Core.List.{List}
 use mathlib.Core.Path.{_≡_, refl, sym, ap, ap₂, _∙_, subst}
-use Prim.Native.Nat.{ℕ, _+_, _-_, _*_, _/_, _%_, _^_, _≤_, _<_}
-use native.Mathlib.Nat.{add-zero, zero-add, add-mul, mul-assoc, mul-mod-left}
-use native.Mathlib.Numerals.{add-one}
+use Prim.Native.Nat.{ℕ, zero, suc, _+_, _-_, _*_, _/_, _%_, _^_, _≤_, _<_}
+use native.Mathlib.Nat.{add-zero, zero-add, add-mul, mul-assoc, mul-mod-left, mod-eq-of-lt, div-add-mod'}
 use native.Mathlib.Omega.{arith}
-use lib.Bits.{bitAnd, bitOr, and-mask, or-shifted}
-use lib.Dec.{lit≤}
-use lib.ListN.{length, getD, set}
-use lib.Pow.{pow-add, high, low, mod-pow-add, shl-exact, shl-lt, shl-shr}
-use Rattle.bits.specs.Order.{bitAt, run, digit, number, octetsOf, laid, laidAt}
-use Rattle.bits.proofs.Numbers.{bitAt-lt, number-split, number-lt, number-ext, number-octet, digit-number, number-digit}
-use Rattle.bits.proofs.Laid.{octetsFrom, word-from, laid-next, laid-more, laid-octet}
+use borrow.Author.Tests.{eq-eqb, ne-eqb}
+use lib.Bits.{bitAnd, bitOr, bitXor, and-mask, or-shifted, xor-lt}
+use lib.Dec.{eqb, lit≤}
+use lib.Pow.{pow-add, high, low, field, mod-pow-add, mod-mod-pow, shl-exact, shl-lt, shl-shr, shr-lt, shr-shr}
+use Rattle.bits.specs.Choice.{pick}
+use Rattle.bits.specs.Order.{bitAt, digit, number, octetsOf}
+use Rattle.bits.proofs.Numbers.{digit-is, number-more, number-two, number-ones, number-split, number-lt, number-low, number-high, number-ext, number-and, number-xor, digit-number, number-digit}
 use Rattle.frame.specs.Headers.{value, carries, spoilt, headerOf}
-use Rattle.frame.specs.Lane.{blockWidth, headerPlace, dataPlace, headerAt, syncBit, spoiltBit, dataBit, blockBit, multiblockBit}
-use Rattle.frame.proofs.Lane.{syncBit-lt, spoiltBit-lt, multiblockBit-lt, multiblock-at, block-data}
+use Rattle.frame.specs.Lane.{blockWidth, laneOctets, headerPlace, dataPlace, headerAt, syncBit, spoiltBit, dataBit, dataOctets, blockBit, multiblockBit, multiblock}
+use Rattle.frame.proofs.Lane.{header-lt, multiblockBit-lt, multiblock-at, block-data}
 
--- a shift left drops what leaves the word
+-- a shift left drops what leaves the word, and so do two
 shift-left : (x t : ℕ) → t ≤ 64 → x * 2 ^ t % 2 ^ 64 ≡ x % 2 ^ (64 - t) * 2 ^ t
 shift-left x t h =
     ap (λ (z : ℕ). x * 2 ^ t % 2 ^ z) {x = 64} {y = 64 - t + t} (omega arith)
@@ -24,121 +25,187 @@ shift-left x t h =
     ∙ ap₂ (λ (y z : ℕ). y % 2 ^ (64 - t) * 2 ^ t + z) (shl-shr x t) (mul-mod-left x (2 ^ t))
     ∙ add-zero _
 
-module _ (f : ℕ → ℕ) (bits : (k : ℕ) → f k < 2) where
-  -- a word's last s bits, the first of another word
-  last-bits : (k l s word : ℕ) → s ≤ 64 → k + 64 ≡ l + s → word ≡ number f k 64 → word % 2 ^ s ≡ number f l s
-  last-bits k l s word h e ew =
-      ap (λ (x : ℕ). x % 2 ^ s) (ew ∙ ap (number f k) {x = 64} {y = 64 - s + s} (omega arith) ∙ number-split f k (64 - s) s)
-      ∙ low (number f k (64 - s)) s (number-lt f bits (k + (64 - s)) s)
-      ∙ ap (λ (x : ℕ). number f x s) (omega arith)
-
-  -- a word's first n bits
-  first-bits : (k n word : ℕ) → n ≤ 64 → word ≡ number f k 64 → word / 2 ^ (64 - n) ≡ number f k n
-  first-bits k n word h ew =
-      ap (λ (x : ℕ). x / 2 ^ (64 - n)) (ew ∙ ap (number f k) {x = 64} {y = n + (64 - n)} (omega arith) ∙ number-split f k n (64 - n))
-      ∙ high (number f k n) (64 - n) (number-lt f bits (k + n) (64 - n))
-
-  -- upper | next >> n: the first bits of the next word below n bits that stand at the top
-  lay-below : (k n upper next : ℕ) → n ≤ 64 → upper ≡ number f k n * 2 ^ (64 - n) → next ≡ number f (k + n) 64 → bitOr upper (next / 2 ^ n) ≡ number f k 64
-  lay-below k n upper next h eu en =
-      let e : next / 2 ^ n ≡ number f (k + n) (64 - n) = ap (λ (x : ℕ). next / 2 ^ x) {x = n} {y = 64 - (64 - n)} (omega arith) ∙ first-bits (k + n) (64 - n) next (omega arith) en in
-      ap₂ bitOr eu e
-      ∙ or-shifted (number f k n) (64 - n) (number f (k + n) (64 - n)) (number-lt f bits (k + n) (64 - n))
-      ∙ sym (number-split f k n (64 - n))
-      ∙ ap (number f k) (omega arith)
-
-  header-lt : (k header : ℕ) → header ≡ number f k 2 → header < 4
-  header-lt k header e = subst (λ (x : ℕ). x < 4) (sym e) (number-lt f bits k 2)
-
-  -- header << 62: a header at the top of a word
-  header-first : (k header : ℕ) → header ≡ number f k 2 → header * 2 ^ 62 % 2 ^ 64 ≡ number f k 2 * 2 ^ 62
-  header-first k header e = shl-exact 2 62 64 (header-lt k header e) (omega arith) ∙ ap (λ (x : ℕ). x * 2 ^ 62) e
-
-  -- word << (64 - s) | header << (62 - s): a header below the last s bits of a word
-  header-below : (j k s word header : ℕ) → s ≤ 62 → j + 64 ≡ k + s → word ≡ number f j 64 → header ≡ number f (k + s) 2
-      → bitOr (word * 2 ^ (64 - s) % 2 ^ 64) (header * 2 ^ (62 - s) % 2 ^ 64) ≡ number f k (s + 2) * 2 ^ (62 - s)
-  header-below j k s word header h ej ew eh =
-      let hl = header-lt (k + s) header eh in
-      let es : 64 - (64 - s) ≡ s = omega arith in
-      let u = number f k s in
-      let big : 2 ^ (64 - s) ≡ 4 * 2 ^ (62 - s) = ap (λ (x : ℕ). 2 ^ x) {x = 64 - s} {y = 2 + (62 - s)} (omega arith) ∙ pow-add 2 2 (62 - s) in
-      ap₂ bitOr
-      (shift-left word (64 - s) (omega arith) ∙ ap (λ (x : ℕ). word % 2 ^ x * 2 ^ (64 - s)) es ∙ ap (λ (x : ℕ). x * 2 ^ (64 - s)) (last-bits j k s word (omega arith) ej ew))
-      (shl-exact 2 (62 - s) 64 hl (omega arith))
-      ∙ or-shifted u (64 - s) (header * 2 ^ (62 - s)) (subst (λ (x : ℕ). header * 2 ^ (62 - s) < 2 ^ x) {x = 2 + (62 - s)} {y = 64 - s} (omega arith) (shl-lt 2 (62 - s) hl))
-      ∙ ap₂ (λ (x y : ℕ). u * x + y * 2 ^ (62 - s)) big eh
-      ∙ sym (add-mul (u * 4) (number f (k + s) 2) (2 ^ (62 - s)) ∙ ap (λ (x : ℕ). x + number f (k + s) 2 * 2 ^ (62 - s)) (mul-assoc u 4 (2 ^ (62 - s))))
-      ∙ ap (λ (x : ℕ). x * 2 ^ (62 - s)) (sym (number-split f k s 2))
-
-  -- bits << 1 | bit
-  bit-more : (k n word bit : ℕ) → n < 32 → word ≡ number f k n → bit ≡ f (k + n) → bitOr (word * 2 ^ 1 % 2 ^ 32) bit ≡ number f k (n + 1)
-  unfolding number
-  bit-more k n word bit h ew eb =
-      ap (λ (x : ℕ). bitOr x bit) (shl-exact n 1 32 (subst (λ (x : ℕ). x < 2 ^ n) (sym ew) (number-lt f bits k n)) (omega arith))
-      ∙ or-shifted word 1 bit (subst (λ (x : ℕ). x < 2) (sym eb) (bits (k + n)))
-      ∙ ap₂ (λ (x y : ℕ). x * 2 + y) ew eb
-      ∙ ap (number f k) (sym (add-one n))
+shift-twice : (x s t n : ℕ) → s + t + n ≡ 64 → x * 2 ^ s % 2 ^ 64 * 2 ^ t % 2 ^ 64 ≡ x % 2 ^ n * 2 ^ (s + t)
+shift-twice x s t n e =
+    ap (λ (y : ℕ). y * 2 ^ t % 2 ^ 64) (shift-left x s (omega arith) ∙ ap (λ (y : ℕ). x % 2 ^ y * 2 ^ s) {x = 64 - s} {y = t + n} (omega arith))
+    ∙ ap (λ (y : ℕ). y % 2 ^ 64) (mul-assoc (x % 2 ^ (t + n)) (2 ^ s) (2 ^ t) ∙ ap (λ (y : ℕ). x % 2 ^ (t + n) * y) (sym (pow-add 2 s t)))
+    ∙ shift-left (x % 2 ^ (t + n)) (s + t) (omega arith)
+    ∙ ap (λ (y : ℕ). x % 2 ^ (t + n) % 2 ^ y * 2 ^ (s + t)) {x = 64 - (s + t)} {y = n} (omega arith)
+    ∙ ap (λ (y : ℕ). y * 2 ^ (s + t)) (mod-mod-pow x t n)
 
 -- ---- reading
-
--- word << t + octet >> (8 - t): 64 bits that begin t bits into an octet
-module _ (octets : List ℕ) (at t k word : ℕ) (ew : word ≡ number (bitAt octets) (8 * at) 64) (h : getD octets (at + 8) 0 < 256) (ek : k ≡ 8 * at + t) (ht : t ≤ 8) where
-  pub word-and-octet : word * 2 ^ t % 2 ^ 64 + getD octets (at + 8) 0 / 2 ^ (8 - t) ≡ number (bitAt octets) k 64
-  word-and-octet =
-      let f = bitAt octets in
-      let bits = bitAt-lt octets in
-      let lower : getD octets (at + 8) 0 / 2 ^ (8 - t) ≡ number f (k + (64 - t)) t =
-      ap (λ (x : ℕ). x / 2 ^ (8 - t)) (sym (number-octet octets (at + 8) h) ∙ ap (number f (8 * (at + 8))) {x = 8} {y = t + (8 - t)} (omega arith) ∙ number-split f (8 * (at + 8)) t (8 - t))
-      ∙ high (number f (8 * (at + 8)) t) (8 - t) (number-lt f bits (8 * (at + 8) + t) (8 - t))
-      ∙ ap (λ (x : ℕ). number f x t) (omega arith) in
-      ap₂ _+_ (shift-left word t (omega arith) ∙ ap (λ (x : ℕ). x * 2 ^ t) (last-bits f bits (8 * at) k (64 - t) word (omega arith) (omega arith) ew)) lower
-      ∙ sym (number-split f k (64 - t) t)
-      ∙ ap (number f k) (omega arith)
-
-  pub word-and-octet-lt : word * 2 ^ t % 2 ^ 64 + getD octets (at + 8) 0 / 2 ^ (8 - t) < 2 ^ 64
-  word-and-octet-lt = subst (λ (x : ℕ). x < 2 ^ 64) (sym word-and-octet) (number-lt (bitAt octets) (bitAt-lt octets) k 64)
 
 -- word >> (62 - t) & 3: two bits that stand t bits into a word
 pub two-bits : (word t : ℕ) → t ≤ 62 → bitAnd (word / 2 ^ (62 - t)) 3 ≡ number (digit 64 word) t 2
 two-bits word t h = and-mask (word / 2 ^ (62 - t)) 2 ∙ sym (number-digit 64 word t 2 (omega arith) ∙ ap (λ (x : ℕ). word / 2 ^ x % 4) {x = 64 - t - 2} {y = 62 - t} (omega arith))
 
--- the bits of block b, as the lane's definitions have them
-pub header-read : (f : ℕ → ℕ) → ((k : ℕ) → f k < 2) → (b at word header : ℕ) → at ≡ 66 * b / 8 → word ≡ number f (8 * at) 64 → header ≡ number (digit 64 word) (66 * b % 8) 2
-    → header ≡ headerAt 0 f 0 b
-unfolding number headerAt headerPlace blockWidth value
-header-read f bits b at word header ea ew eh =
-    let t = 66 * b % 8 in
-    let bit : (j : ℕ) → j < 2 → digit 64 word (t + j) ≡ f (66 * (32 * 0 + b) + j) =
-    λ j h. ap (λ (x : ℕ). digit 64 x (t + j)) ew ∙ digit-number f bits (8 * at) 64 (t + j) (omega arith) ∙ ap f (omega arith) in
-    let first : f (66 * (32 * 0 + b) + 0) ≡ f (66 * (32 * 0 + b)) = ap f (omega arith) in omega (arith, bit 0 (lit≤ tt), bit 1 (lit≤ tt))
+-- word << 2 << t | next >> (62 - t): the 64 bits behind them
+pub two-words : (word next t : ℕ) → next < 2 ^ 64 → t ≤ 62
+    → bitOr (word * 2 ^ 2 % 2 ^ 64 * 2 ^ t % 2 ^ 64) (next / 2 ^ (62 - t)) ≡ number (digit 128 (word * 2 ^ 64 + next)) (t + 2) 64
+two-words word next t h ht =
+    let s = 62 - t in
+    let v = word * 2 ^ 64 + next in
+    let whole : 2 + t + s ≡ 64 = omega arith in
+    let lower : next / 2 ^ s ≡ v / 2 ^ s % 2 ^ (2 + t) = sym (sym (field v (2 + t) s) ∙ ap (λ (x : ℕ). v % 2 ^ x / 2 ^ s) whole ∙ ap (λ (x : ℕ). x / 2 ^ s) (low word 64 h)) in
+    let upper : word ≡ v / 2 ^ s / 2 ^ (2 + t) = sym (shr-shr v s (2 + t) ∙ ap (λ (x : ℕ). v / 2 ^ x) {x = s + (2 + t)} {y = 64} (omega arith) ∙ high word 64 h) in
+    ap (λ (x : ℕ). bitOr x (next / 2 ^ s)) (shift-twice word 2 t s whole)
+    ∙ or-shifted (word % 2 ^ s) (2 + t) (next / 2 ^ s) (shr-lt (2 + t) s (subst (λ (x : ℕ). next < 2 ^ x) (sym whole) h))
+    ∙ ap₂ (λ (x y : ℕ). x % 2 ^ s * 2 ^ (2 + t) + y) upper lower
+    ∙ sym (number-digit 128 v (t + 2) 64 (omega arith)
+    ∙ ap₂ (λ (x y : ℕ). v / 2 ^ x % 2 ^ y) {x = 128 - (t + 2) - 64} {y = s} {u = 64} {v = s + (2 + t)} (omega arith) (omega arith)
+    ∙ mod-pow-add (v / 2 ^ s) s (2 + t))
 
-pub data-read : (f : ℕ → ℕ) (b : ℕ) → number f (66 * b + 2) 64 ≡ number (dataBit 0 f 0) (64 * b) 64
-unfolding dataBit dataPlace headerPlace blockWidth
-data-read f b = number-ext f (λ q. f (66 * (32 * 0 + q / 64) + 2 + q % 64 + 0 * (q % 64 / 8))) (66 * b + 2) (64 * b) 64 (λ j h. ap f (omega arith))
+-- the first and the second bit of the header of block t
+abbrev pub firstBit : (ℕ → ℕ) → ℕ → ℕ
+firstBit lane t = headerAt 0 lane 0 t / 2
 
--- the headers of the first blocks, and of one block more
-module _ (lane : ℕ → ℕ) (b header : ℕ) (h : b < 32) (eh : header ≡ headerAt 0 lane 0 b) where
-  pub sync-more : (word bit : ℕ) → word ≡ number (syncBit 0 lane 0) 0 b → bit ≡ carries header → bitOr (word * 2 ^ 1 % 2 ^ 32) bit ≡ number (syncBit 0 lane 0) 0 (b + 1)
-  unfolding syncBit
-  sync-more word bit ew eb = bit-more (syncBit 0 lane 0) (syncBit-lt 0 lane 0) 0 b word bit h ew (eb ∙ ap carries (eh ∙ ap (headerAt 0 lane 0) (sym (zero-add b))))
+abbrev pub secondBit : (ℕ → ℕ) → ℕ → ℕ
+secondBit lane t = headerAt 0 lane 0 t % 2
 
-  pub spoilt-more : (word bit : ℕ) → word ≡ number (spoiltBit 0 lane 0) 0 b → bit ≡ spoilt header → bitOr (word * 2 ^ 1 % 2 ^ 32) bit ≡ number (spoiltBit 0 lane 0) 0 (b + 1)
-  unfolding spoiltBit
-  spoilt-more word bit ew eb = bit-more (spoiltBit 0 lane 0) (spoiltBit-lt 0 lane 0) 0 b word bit h ew (eb ∙ ap spoilt (eh ∙ ap (headerAt 0 lane 0) (sym (zero-add b))))
+-- bits << 1 | bit
+bit-more : (f : ℕ → ℕ) → ((k : ℕ) → f k < 2) → (n word bit : ℕ) → n < 32 → word ≡ number f 0 n → bit ≡ f n → bitOr (word * 2 ^ 1 % 2 ^ 32) bit ≡ number f 0 (n + 1)
+bit-more f bits n word bit h ew eb =
+    ap (λ (x : ℕ). bitOr x bit) (shl-exact n 1 32 (subst (λ (x : ℕ). x < 2 ^ n) (sym ew) (number-lt f bits 0 n)) (omega arith))
+    ∙ or-shifted word 1 bit (subst (λ (x : ℕ). x < 2) (sym eb) (bits n))
+    ∙ ap₂ (λ (x y : ℕ). x * 2 + y) ew (eb ∙ ap f (sym (zero-add n)))
+    ∙ sym (number-more f 0 n)
+
+module _ (lane : ℕ → ℕ) (bits : (k : ℕ) → lane k < 2) where
+  first-lt : (t : ℕ) → firstBit lane t < 2
+  first-lt t = omega (arith, header-lt 0 lane bits 0 t)
+
+  second-lt : (t : ℕ) → secondBit lane t < 2
+  second-lt t = omega arith
+
+  -- block b, of word b and the next
+  module _ (b word : ℕ) (h : b < 32) (ew : word ≡ number lane (64 * b) 64) where
+    pub data-read : (next block : ℕ) → next ≡ number lane (64 * (b + 1)) 64 → block ≡ number (digit 128 (word * 2 ^ 64 + next)) (2 * b + 2) 64 → block ≡ number (dataBit 0 lane 0) (64 * b) 64
+    unfolding dataBit dataPlace headerPlace blockWidth
+    data-read next block en eb =
+        let both : word * 2 ^ 64 + next ≡ number lane (64 * b) 128 =
+        ap₂ (λ (x y : ℕ). x * 2 ^ 64 + y) ew (en ∙ ap (λ (x : ℕ). number lane x 64) {x = 64 * (b + 1)} {y = 64 * b + 64} (omega arith)) ∙ sym (number-split lane (64 * b) 64 64) in
+        eb
+        ∙ number-ext (digit 128 (word * 2 ^ 64 + next)) (dataBit 0 lane 0) (2 * b + 2) (64 * b) 64
+        (λ j q. ap (λ (x : ℕ). digit 128 x (2 * b + 2 + j)) both ∙ digit-number lane bits (64 * b) 128 (2 * b + 2 + j) (omega arith) ∙ ap lane (omega arith))
+
+    module _ (header : ℕ) (eh : header ≡ number (digit 64 word) (2 * b) 2) where
+      header-read : header ≡ headerAt 0 lane 0 b
+      unfolding headerAt headerPlace blockWidth value
+      header-read =
+          eh
+          ∙ number-ext (digit 64 word) lane (2 * b) (66 * (32 * 0 + b)) 2
+          (λ j q. ap (λ (x : ℕ). digit 64 x (2 * b + j)) ew ∙ digit-number lane bits (64 * b) 64 (2 * b + j) (omega arith) ∙ ap lane (omega arith))
+          ∙ number-two lane (66 * (32 * 0 + b))
+
+      pub first-more : (first : ℕ) → first ≡ number (firstBit lane) 0 b → bitOr (first * 2 ^ 1 % 2 ^ 32) (header / 2 ^ 1) ≡ number (firstBit lane) 0 (b + 1)
+      first-more first e = bit-more (firstBit lane) first-lt b first (header / 2 ^ 1) h e (ap (λ (x : ℕ). x / 2) header-read)
+
+      pub second-more : (second : ℕ) → second ≡ number (secondBit lane) 0 b → bitOr (second * 2 ^ 1 % 2 ^ 32) (bitAnd header 1) ≡ number (secondBit lane) 0 (b + 1)
+      second-more second e = bit-more (secondBit lane) second-lt b second (bitAnd header 1) h e (and-mask header 1 ∙ ap (λ (x : ℕ). x % 2) header-read)
+
+  -- what holds of all four headers
+  header-cases : (P : ℕ → Type 0) → P 0 → P 1 → P 2 → P 3 → (t : ℕ) → P (headerAt 0 lane 0 t)
+  header-cases P p₀ p₁ p₂ p₃ t = go (headerAt 0 lane 0 t) (header-lt 0 lane bits 0 t)
+    where
+      go : (v : ℕ) → v < 4 → P v
+      go zero l = p₀
+      go (suc zero) l = p₁
+      go (suc (suc zero)) l = p₂
+      go (suc (suc (suc zero))) l = p₃
+      go (suc (suc (suc (suc v)))) l = absurd (omega arith)
+
+  -- a header is valid where its bits differ, and then carries its second
+  module _ (first second : ℕ) (ef : first ≡ number (firstBit lane) 0 32) (es : second ≡ number (secondBit lane) 0 32) where
+    valid : ℕ → ℕ
+    valid t = bitXor (firstBit lane t) (secondBit lane t)
+
+    valid-lt : (t : ℕ) → valid t < 2
+    unfolding valid
+    valid-lt t = xor-lt 1 (firstBit lane t) (secondBit lane t) (first-lt t) (second-lt t)
+
+    all-valid : bitXor first second ≡ number valid 0 32
+    unfolding valid
+    all-valid = ap₂ bitXor ef es ∙ sym (number-xor (firstBit lane) (secondBit lane) first-lt second-lt 0 32)
+
+    pub sync-read : bitAnd second (bitXor first second) ≡ number (syncBit 0 lane 0) 0 32
+    unfolding valid syncBit carries
+    sync-read =
+        ap₂ bitAnd es all-valid
+        ∙ sym (number-ext (syncBit 0 lane 0) (λ t. bitAnd (secondBit lane t) (valid t)) 0 0 32
+        (λ j q. header-cases (λ (v : ℕ). carries v ≡ bitAnd (v % 2) (bitXor (v / 2) (v % 2))) refl refl refl refl (0 + j))
+        ∙ number-and (secondBit lane) valid second-lt valid-lt 0 32)
+
+    pub spoilt-read : bitXor (bitXor first second) 0xffffffff ≡ number (spoiltBit 0 lane 0) 0 32
+    unfolding valid spoiltBit spoilt
+    spoilt-read =
+        ap (λ (x : ℕ). bitXor x 0xffffffff) all-valid
+        ∙ sym (number-ext (spoiltBit 0 lane 0) (λ t. bitXor (valid t) 1) 0 0 32
+        (λ j q. header-cases (λ (v : ℕ). spoilt v ≡ bitXor (bitXor (v / 2) (v % 2)) 1) refl refl refl refl (0 + j))
+        ∙ number-xor valid (λ t. 1) valid-lt (λ t. lit≤ tt) 0 32
+        ∙ ap (bitXor (number valid 0 32)) (number-ones 0 32))
+
+pub octets-read : (lane : ℕ → ℕ) (b : ℕ) → b ≡ 32 → octetsOf (dataBit 0 lane 0) (8 * b) ≡ dataOctets 0 lane 0
+unfolding dataOctets
+octets-read lane b e = ap (λ (x : ℕ). octetsOf (dataBit 0 lane 0) (8 * x)) e
 
 -- ---- writing
 
-pub sync-bit : (sync b : ℕ) → digit 32 sync b ≡ bitAnd (sync / 2 ^ (31 - b)) 1
-unfolding digit
-sync-bit sync b = sym (and-mask (sync / 2 ^ (31 - b)) 1)
+-- the header that carries bit b of a sync word, found by a shift
+module _ (sync b : ℕ) where
+  sync-bit : digit 32 sync b ≡ bitAnd (sync / 2 ^ (31 - b)) 1
+  sync-bit = digit-is 32 sync b ∙ sym (and-mask (sync / 2 ^ (31 - b)) 1)
+
+  pub header-of-one : bitAnd (sync / 2 ^ (31 - b)) 1 ≡ 1 → headerOf (digit 32 sync b) ≡ 1
+  unfolding headerOf
+  header-of-one e = ap (λ (t : Bool). pick t 1 2) (eq-eqb (digit 32 sync b) 1 (sync-bit ∙ e))
+
+  pub header-of-zero : (bitAnd (sync / 2 ^ (31 - b)) 1 ≡ 1 → ⊥) → headerOf (digit 32 sync b) ≡ 2
+  unfolding headerOf
+  header-of-zero h = ap (λ (t : Bool). pick t 1 2) (ne-eqb (digit 32 sync b) 1 (λ e. h (sym sync-bit ∙ e)))
+
+  headerOf-lt : headerOf (digit 32 sync b) < 4
+  unfolding headerOf
+  headerOf-lt = go (eqb (digit 32 sync b) 1)
+    where
+      go : (t : Bool) → pick t 1 2 < 4
+      go true = lit≤ tt
+      go false = lit≤ tt
+
+-- before << 1 << (63 - t) | header << (62 - t) | block >> 2 >> t: the last t bits of a block, a header, and the first bits of its block
+pub word-made : (sync b before header block t : ℕ) → header ≡ headerOf (digit 32 sync b) → block < 2 ^ 64 → t ≤ 62
+    → bitOr (bitOr (before * 2 ^ 1 % 2 ^ 64 * 2 ^ (63 - t) % 2 ^ 64) (header * 2 ^ (62 - t) % 2 ^ 64)) (block / 2 ^ 2 / 2 ^ t)
+    ≡ (before % 2 ^ t * 4 + headerOf (digit 32 sync b)) * 2 ^ (62 - t) + block / 2 ^ (2 + t)
+word-made sync b before header block t eh hb ht =
+    let hh = subst (λ (x : ℕ). x < 4) (sym eh) (headerOf-lt sync b) in
+    let s = 62 - t in
+    let u = before % 2 ^ t in
+    let top : 1 + (63 - t) ≡ 2 + s = omega arith in
+    ap₂ bitOr
+    (ap₂ bitOr (shift-twice before 1 (63 - t) t (omega arith) ∙ ap (λ (x : ℕ). u * 2 ^ x) top) (shl-exact 2 s 64 hh (omega arith))
+    ∙ or-shifted u (2 + s) (header * 2 ^ s) (shl-lt 2 s hh)
+    ∙ ap (λ (x : ℕ). u * x + header * 2 ^ s) (pow-add 2 2 s)
+    ∙ sym (add-mul (u * 4) header (2 ^ s) ∙ ap (λ (x : ℕ). x + header * 2 ^ s) (mul-assoc u 4 (2 ^ s))))
+    (shr-shr block 2 t)
+    ∙ or-shifted (u * 4 + header) s (block / 2 ^ (2 + t)) (shr-lt s (2 + t) (subst (λ (x : ℕ). block < 2 ^ x) {x = 64} {y = s + (2 + t)} (omega arith) hb))
+    ∙ ap (λ (x : ℕ). (u * 4 + x) * 2 ^ s + block / 2 ^ (2 + t)) eh
 
 module _ (sync : ℕ) (octets : List ℕ) where
-  header-written : (b : ℕ) → number (multiblockBit 0 sync octets) (66 * b) 2 ≡ headerOf (digit 32 sync b)
-  unfolding number blockBit blockWidth
-  header-written b = omega (arith, multiblock-at 0 sync octets b 0 (omega arith), multiblock-at 0 sync octets b 1 (omega arith))
+  lane : ℕ → ℕ
+  lane = multiblockBit 0 sync octets
 
-  data-written : (b : ℕ) → number (multiblockBit 0 sync octets) (66 * b + 2) 64 ≡ number (bitAt octets) (64 * b) 64
-  unfolding blockWidth
+  bits : (x : ℕ) → lane x < 2
+  unfolding lane
+  bits = multiblockBit-lt 0 sync octets
+
+  header-written : (b : ℕ) → number lane (66 * b) 2 ≡ headerOf (digit 32 sync b)
+  unfolding lane blockBit blockWidth
+  header-written b =
+      number-two lane (66 * b)
+      ∙ ap₂ (λ (x y : ℕ). x * 2 + y) (ap lane (sym (add-zero (66 * b))) ∙ multiblock-at 0 sync octets b 0 (omega arith)) (multiblock-at 0 sync octets b 1 (omega arith))
+      ∙ div-add-mod' (headerOf (digit 32 sync b)) 2
+
+  data-written : (b : ℕ) → number lane (66 * b + 2) 64 ≡ number (bitAt octets) (64 * b) 64
+  unfolding lane blockWidth
   data-written b =
       number-ext (multiblockBit 0 sync octets) (bitAt octets) (66 * b + 2) (64 * b) 64
       (λ j h.
@@ -146,77 +213,41 @@ module _ (sync : ℕ) (octets : List ℕ) where
       ∙ multiblock-at 0 sync octets b (2 + j + 0 * (j / 8)) (omega arith)
       ∙ block-data 0 (digit 32 sync b) (λ q. bitAt octets (64 * b + q)) j)
 
-  bits : (x : ℕ) → multiblockBit 0 sync octets x < 2
-  bits = multiblockBit-lt 0 sync octets
+  -- word b of the lane
+  module _ (b block : ℕ) (h : b < 32) (eb : block ≡ number (bitAt octets) (64 * b) 64) where
+    pub word-written : (before word : ℕ) → before % 2 ^ (2 * b) ≡ number (multiblockBit 0 sync octets) (64 * b) (2 * b)
+        → word ≡ (before % 2 ^ (2 * b) * 4 + headerOf (digit 32 sync b)) * 2 ^ (62 - 2 * b) + block / 2 ^ (2 + 2 * b)
+        → word ≡ number (multiblockBit 0 sync octets) (64 * b) 64
+    unfolding lane
+    word-written before word ep ew =
+        let t = 2 * b in
+        let s = 62 - t in
+        let place : 64 * b + t ≡ 66 * b = omega arith in
+        let upper : before % 2 ^ t * 4 + headerOf (digit 32 sync b) ≡ number lane (64 * b) (t + 2) =
+        ap₂ (λ (x y : ℕ). x * 4 + y) ep (sym (header-written b) ∙ ap (λ (x : ℕ). number lane x 2) (sym place)) ∙ sym (number-split lane (64 * b) t 2) in
+        let lower : block / 2 ^ (2 + t) ≡ number lane (64 * b + (t + 2)) s =
+        ap (λ (x : ℕ). x / 2 ^ (2 + t)) (eb ∙ sym (data-written b) ∙ ap (number lane (66 * b + 2)) {x = 64} {y = s + (2 + t)} (omega arith))
+        ∙ number-high lane bits (66 * b + 2) s (2 + t)
+        ∙ ap (λ (x : ℕ). number lane x s) (omega arith) in
+        ew
+        ∙ ap₂ (λ (x y : ℕ). x * 2 ^ s + y) upper lower
+        ∙ sym (number-split lane (64 * b) (t + 2) s)
+        ∙ ap (number lane (64 * b)) (omega arith)
 
-  -- the header and the data of block b, made of the sync word and of the octets from `given` on
-  header-is : (b header : ℕ) → header ≡ headerOf (digit 32 sync b) → header ≡ number (multiblockBit 0 sync octets) (66 * b) 2
-  header-is b header e = e ∙ sym (header-written b)
+    -- what the next word begins with
+    pub before-next : block % 2 ^ (2 * (b + 1)) ≡ number (multiblockBit 0 sync octets) (64 * (b + 1)) (2 * (b + 1))
+    unfolding lane
+    before-next =
+        ap (λ (x : ℕ). x % 2 ^ (2 * (b + 1))) (eb ∙ sym (data-written b) ∙ ap (number lane (66 * b + 2)) {x = 64} {y = 62 - 2 * b + 2 * (b + 1)} (omega arith))
+        ∙ number-low lane bits (66 * b + 2) (62 - 2 * b) (2 * (b + 1))
+        ∙ ap (λ (x : ℕ). number lane x (2 * (b + 1))) (omega arith)
 
-  data-is : (b given block : ℕ) → given ≡ 8 * b → block ≡ number (bitAt octets) (8 * given) 64 → block ≡ number (multiblockBit 0 sync octets) (66 * b + 2) 64
-  data-is b given block e eb = eb ∙ ap (λ (x : ℕ). number (bitAt octets) x 64) (omega arith) ∙ sym (data-written b)
+  -- the word after the last block
+  pub last-word : (b before : ℕ) → b ≡ 32 → before < 2 ^ 64 → before % 2 ^ (2 * b) ≡ number (multiblockBit 0 sync octets) (64 * b) (2 * b)
+      → before ≡ number (multiblockBit 0 sync octets) (64 * 32) 64
+  last-word b before e h p =
+      sym (mod-eq-of-lt h) ∙ ap (λ (x : ℕ). before % 2 ^ (2 * x)) (sym e) ∙ p ∙ ap (λ (x : ℕ). number (multiblockBit 0 sync octets) (64 * x) (2 * x)) e
 
-  -- the word that begins with block b
-  first-word : (b given at header block : ℕ) → header ≡ headerOf (digit 32 sync b) → block ≡ number (bitAt octets) (8 * given) 64 → given ≡ 8 * b → 8 * at ≡ 66 * b
-      → bitOr (header * 2 ^ 62 % 2 ^ 64) (block / 2 ^ 2) ≡ number (multiblockBit 0 sync octets) (8 * at) 64
-  first-word b given at header block eh eb eg place =
-      let f = multiblockBit 0 sync octets in
-      lay-below f bits (8 * at) 2 (header * 2 ^ 62 % 2 ^ 64) block (lit≤ tt)
-      (header-first f bits (8 * at) header (header-is b header eh ∙ ap (λ (x : ℕ). number f x 2) (sym place)))
-      (data-is b given block eg eb ∙ ap (λ (x : ℕ). number f x 64) (omega arith))
-
-  -- the word that holds the last s bits of a block, then block b
-  next-word : (b s earlier given at before header block : ℕ) → before ≡ number (bitAt octets) (8 * earlier) 64 → header ≡ headerOf (digit 32 sync b) → block ≡ number (bitAt octets) (8 * given) 64
-      → earlier + 8 ≡ given → given ≡ 8 * b → 8 * at + s ≡ 66 * b → s ≤ 62
-      → bitOr (bitOr (before * 2 ^ (64 - s) % 2 ^ 64) (header * 2 ^ (62 - s) % 2 ^ 64)) (block / 2 ^ (s + 2)) ≡ number (multiblockBit 0 sync octets) (8 * at) 64
-  next-word b s earlier given at before header block ew eh eb ee eg place h =
-      let f = multiblockBit 0 sync octets in
-      lay-below f bits (8 * at) (s + 2) (bitOr (before * 2 ^ (64 - s) % 2 ^ 64) (header * 2 ^ (62 - s) % 2 ^ 64)) block (omega arith)
-      (header-below f bits (66 * (b - 1) + 2) (8 * at) s before header h (omega arith) (data-is (b - 1) earlier before (omega arith) ew) (header-is b header eh ∙ ap (λ (x : ℕ). number f x 2) (sym place))
-      ∙ ap (λ (x : ℕ). number f (8 * at) (s + 2) * 2 ^ x) {x = 62 - s} {y = 64 - (s + 2)} (omega arith))
-      (data-is b given block eg eb ∙ ap (λ (x : ℕ). number f x 64) (omega arith))
-
-  -- one word more laid behind n octets
-  word-laid : (at n place word : ℕ) (o : List ℕ) {m m′ : List ℕ} → m ≡ laidAt (octetsFrom (multiblockBit 0 sync octets) at n) at o → m′ ≡ laidAt (octetsOf (digit 64 word) 8) place m
-      → word ≡ number (multiblockBit 0 sync octets) (8 * place) 64 → place ≡ at + n → place + 8 ≤ length o → m′ ≡ laidAt (octetsFrom (multiblockBit 0 sync octets) at (n + 8)) at o
-  word-laid at n place word o p q e ep h =
-      q ∙ ap (laidAt (octetsOf (digit 64 word) 8) place) p ∙ laid-next (multiblockBit 0 sync octets) at n 8 place (octetsOf (digit 64 word) 8) o ep h (word-from (multiblockBit 0 sync octets) bits place word e)
-
-  -- the octet that block b ends
-  last-octet : (b given at block : ℕ) → block ≡ number (bitAt octets) (8 * given) 64 → given ≡ 8 * b → 8 * at + 8 ≡ 66 * (b + 1) → bitAnd block 255 ≡ number (multiblockBit 0 sync octets) (8 * at) 8
-  last-octet b given at block eb eg place =
-      and-mask block 8 ∙ last-bits (multiblockBit 0 sync octets) bits (66 * b + 2) (8 * at) 8 block (lit≤ tt) (omega arith) (data-is b given block eg eb)
-
-  -- four blocks laid down, which end with an octet
-  pub four-laid : (four : ℕ) (o : List ℕ) {m₁ m₂ m₃ m₄ : List ℕ} (first second third fourth header₁ header₂ header₃ header₄ : ℕ) → 33 * four + 33 ≤ length o
-      → first ≡ number (bitAt octets) (8 * (32 * four)) 64 → second ≡ number (bitAt octets) (8 * (32 * four + 8)) 64
-      → third ≡ number (bitAt octets) (8 * (32 * four + 16)) 64 → fourth ≡ number (bitAt octets) (8 * (32 * four + 24)) 64
-      → header₁ ≡ headerOf (digit 32 sync (4 * four)) → header₂ ≡ headerOf (digit 32 sync (4 * four + 1))
-      → header₃ ≡ headerOf (digit 32 sync (4 * four + 2)) → header₄ ≡ headerOf (digit 32 sync (4 * four + 3))
-      → m₁ ≡ laidAt (octetsOf (digit 64 (bitOr (header₁ * 2 ^ 62 % 2 ^ 64) (first / 2 ^ 2))) 8) (33 * four) o
-      → m₂ ≡ laidAt (octetsOf (digit 64 (bitOr (bitOr (first * 2 ^ 62 % 2 ^ 64) (header₂ * 2 ^ 60 % 2 ^ 64)) (second / 2 ^ 4))) 8) (33 * four + 8) m₁
-      → m₃ ≡ laidAt (octetsOf (digit 64 (bitOr (bitOr (second * 2 ^ 60 % 2 ^ 64) (header₃ * 2 ^ 58 % 2 ^ 64)) (third / 2 ^ 6))) 8) (33 * four + 16) m₂
-      → m₄ ≡ laidAt (octetsOf (digit 64 (bitOr (bitOr (third * 2 ^ 58 % 2 ^ 64) (header₄ * 2 ^ 56 % 2 ^ 64)) (fourth / 2 ^ 8))) 8) (33 * four + 24) m₃
-      → 33 * four + 32 < length m₄
-      → set m₄ (33 * four + 32) (bitAnd fourth 255) ≡ laidAt (octetsFrom (multiblockBit 0 sync octets) (33 * four) 33) (33 * four) o
-  unfolding run
-  four-laid four o {m₁} {m₄ = m₄} first second third fourth header₁ header₂ header₃ header₄ h e₁ e₂ e₃ e₄ h₁ h₂ h₃ h₄ p₁ p₂ p₃ p₄ inside =
-      let f = multiblockBit 0 sync octets in
-      let at = 33 * four in
-      let q₁ : m₁ ≡ laidAt (octetsFrom f at 8) at o = p₁ ∙ ap (λ (x : List ℕ). laidAt x at o) (word-from f bits at _ (first-word (4 * four) (32 * four) at header₁ first h₁ e₁ (omega arith) (omega arith))) in
-      let q₂ = word-laid at 8 (at + 8) _ o q₁ p₂ (next-word (4 * four + 1) 2 (32 * four) (32 * four + 8) (at + 8) first header₂ second e₁ h₂ e₂ (omega arith) (omega arith) (omega arith) (lit≤ tt)) refl (omega arith) in
-      let q₃ = word-laid at 16 (at + 16) _ o q₂ p₃ (next-word (4 * four + 2) 4 (32 * four + 8) (32 * four + 16) (at + 16) second header₃ third e₂ h₃ e₃ (omega arith) (omega arith) (omega arith) (lit≤ tt)) refl (omega arith) in
-      let q₄ = word-laid at 24 (at + 24) _ o q₃ p₄ (next-word (4 * four + 3) 6 (32 * four + 16) (32 * four + 24) (at + 24) third header₄ fourth e₃ h₄ e₄ (omega arith) (omega arith) (omega arith) (lit≤ tt)) refl (omega arith) in
-      laid-octet (at + 32) (bitAnd fourth 255) m₄ inside
-      ∙ ap (laidAt (bitAnd fourth 255 ∷ []) (at + 32)) q₄
-      ∙ laid-next f at 32 1 (at + 32) (bitAnd fourth 255 ∷ []) o refl (omega arith) (ap (λ (x : ℕ). x ∷ []) (last-octet (4 * four + 3) (32 * four + 24) (at + 32) fourth e₄ (omega arith) (omega arith)))
-
-  -- and laid behind the fours before
-  pub four-more : (four : ℕ) (o : List ℕ) {m m′ : List ℕ} → 33 * four + 33 ≤ length o → m ≡ laid (octetsOf (multiblockBit 0 sync octets) (33 * four)) o
-      → m′ ≡ laidAt (octetsFrom (multiblockBit 0 sync octets) (33 * four) 33) (33 * four) m → m′ ≡ laid (octetsOf (multiblockBit 0 sync octets) (33 * (four + 1))) o
-  four-more four o h p q =
-      let f = multiblockBit 0 sync octets in
-      q
-      ∙ ap (laidAt (octetsFrom f (33 * four) 33) (33 * four)) p
-      ∙ laid-more f (33 * four) 33 (octetsFrom f (33 * four) 33) o h refl
-      ∙ ap (λ (x : ℕ). laid (octetsOf f x) o) {x = 33 * four + 33} {y = 33 * (four + 1)} (omega arith)
+  pub octets-written : octetsOf (multiblockBit 0 sync octets) (8 * (32 + 1)) ≡ multiblock 0 sync octets
+  unfolding multiblock laneOctets blockWidth
+  octets-written = refl

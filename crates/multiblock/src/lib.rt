@@ -1,14 +1,13 @@
-// Multiblocks of 66-bit blocks written to a lane and read from it: clauses 7.1.2, 7.1.3 and 7.2.2. A block begins at any even bit of an
-// octet: shifts and masks gather its header and its 64 data bits across octet edges.
+// Multiblocks of 66-bit blocks written to a lane and read from it: clauses 7.1.2, 7.1.3 and 7.2.2. A multiblock is 33 words of the lane, and
+// block i begins 2 * i bits into word i: shifts and masks lay and gather its header and its 64 data bits across octet edges.
 ghost use mathlib.Core.Path.{_≡_};
-ghost use Prim.Native.Nat.{_+_, _-_, _*_, _/_, _%_, _≤_, _<_};
+ghost use Prim.Native.Nat.{_+_, _-_, _*_, _/_, _%_, _^_, _<_};
 ghost use lib.Dec.{eqb};
-ghost use lib.ListN.{length};
 ghost use Rattle.bits.specs.Choice.{pick};
-ghost use Rattle.bits.specs.Order.{bitAt, run, digit, number, laidAt};
+ghost use Rattle.bits.specs.Order.{bitAt, digit, number, octetsIn};
 ghost use Rattle.bits.specs.Parts.{refusalOf, written};
-ghost use Rattle.frame.specs.Headers.{carries, spoilt, headerOf};
-ghost use Rattle.frame.specs.Lane.{multiblock, multiblockBit, dataOctets, syncBit, spoiltBit};
+ghost use Rattle.frame.specs.Headers.{headerOf};
+ghost use Rattle.frame.specs.Lane.{multiblock, dataOctets, syncBit, spoiltBit};
 
 // The header that carries a bit of the sync word.
 fn header_of(sync: u32, block: usize) -> u64
@@ -22,86 +21,51 @@ fn header_of(sync: u32, block: usize) -> u64
     }
 }
 
-// Four blocks, which fill 33 octets: each begins two bits further into an octet than the one before.
-fn put_four(sync: u32, octets: &[u8], four: usize, lane: &mut [u8])
-    requires { ⌜ (four < 8) × (264 ≤ length (now lane)) ⌝ }
-    ensures { λ _. ⌜ now (lane .exit) ≡ laidAt (run (λ j. number (multiblockBit 0 sync (now (octets .entry))) (8 * j) 8) (33 * four) 33) (33 * four) (now (lane .entry)) ⌝ }
+// The word that a block begins in: the last bits of the data before, the block's header, and the first of its own data.
+fn lane_word(sync: u32, before: u64, own: u64, block: usize) -> u64
+    requires { ⌜ block < 32 ⌝ }
+    ensures { λ r. ⌜ r ≡ (before % 2 ^ (2 * block) * 4 + headerOf (digit 32 sync block)) * 2 ^ (62 - 2 * block) + own / 2 ^ (2 + 2 * block) ⌝ }
 {
-    let at = 33 * four;
-    let first = bits::word_at(octets, 32 * four);
-    let second = bits::word_at(octets, 32 * four + 8);
-    let third = bits::word_at(octets, 32 * four + 16);
-    let fourth = bits::word_at(octets, 32 * four + 24);
-    let header = header_of(sync, 4 * four);
-    bits::put_word(lane, at, (header << 62) | (first >> 2));
-    let header = header_of(sync, 4 * four + 1);
-    bits::put_word(lane, at + 8, (first << 62) | (header << 60) | (second >> 4));
-    let header = header_of(sync, 4 * four + 2);
-    bits::put_word(
-        lane,
-        at + 16,
-        (second << 60) | (header << 58) | (third >> 6),
-    );
-    let header = header_of(sync, 4 * four + 3);
-    bits::put_word(
-        lane,
-        at + 24,
-        (third << 58) | (header << 56) | (fourth >> 8),
-    );
-    lane[at + 32] = (fourth & 255) as u8;
+    let header = header_of(sync, block);
+    let at = 2 * block;
+    ((before << 1) << (63 - at)) | (header << (62 - at)) | ((own >> 2) >> at)
 }
 
-// A multiblock that carries a sync word and the first 256 octets, over the start of `lane`.
-pub fn write(sync: u32, octets: &[u8], lane: &mut [u8]) -> u8
-    ensures { λ r. ⌜ r ≡ refusalOf 256 (now (octets .entry)) 264 (now (lane .entry)) ⌝ }
-    ensures { λ r. ⌜ now (lane .exit) ≡ written r (multiblock 0 sync (now (octets .entry))) (now (lane .entry)) ⌝ }
+// A multiblock that carries a sync word and the first 32 words, over the start of `lane`.
+pub fn write(sync: u32, words: &[u64], lane: &mut [u8]) -> u8
+    ensures { λ r. ⌜ r ≡ refusalOf 32 (now (words .entry)) 264 (now (lane .entry)) ⌝ }
+    ensures { λ r. ⌜ now (lane .exit) ≡ written r (multiblock 0 sync (octetsIn (now (words .entry)))) (now (lane .entry)) ⌝ }
 {
-    if octets.len() < 256 {
+    if words.len() < 32 {
         return 4;
     }
     if lane.len() < 264 {
         return 7;
     }
-    for four in 0..8usize {
-        put_four(sync, octets, four, lane);
+    let mut before: u64 = 0;
+    for block in 0..32usize {
+        let own = words[block];
+        bits::put_word(lane, 8 * block, lane_word(sync, before, own, block));
+        before = own;
     }
+    bits::put_word(lane, 256, before);
     0
 }
 
-// A block's header, of the word that begins with the octet where the block begins.
-fn header_in(word: u64, block: usize) -> u8
+// A block's header, of the word that it begins in.
+fn header_in(word: u64, block: usize) -> u32
     requires { ⌜ block < 32 ⌝ }
-    ensures { λ r. ⌜ r ≡ number (digit 64 word) (66 * block % 8) 2 ⌝ }
+    ensures { λ r. ⌜ r ≡ number (digit 64 word) (2 * block) 2 ⌝ }
 {
-    ((word >> (62 - 66 * block % 8)) & 3) as u8
+    ((word >> (62 - 2 * block)) & 3) as u32
 }
 
-// The bit that a header carries.
-fn carried(header: u8) -> u32
-    ensures { λ r. ⌜ r ≡ carries header ⌝ }
+// Its 64 data bits, of that word and the next.
+fn data_in(word: u64, next: u64, block: usize) -> u64
+    requires { ⌜ block < 32 ⌝ }
+    ensures { λ r. ⌜ r ≡ number (digit 128 (word * 2 ^ 64 + next)) (2 * block + 2) 64 ⌝ }
 {
-    if header == 1 { 1 } else { 0 }
-}
-
-// 1 for an invalid header.
-fn invalid(header: u8) -> u32
-    ensures { λ r. ⌜ r ≡ spoilt header ⌝ }
-{
-    if header == 1 {
-        return 0;
-    }
-    if header == 2 { 0 } else { 1 }
-}
-
-// A block's 64 data bits, of the same word and the octet after it. The sum, where `|` would do, lets the compiler store them at once.
-fn data_at(word: u64, lane: &[u8], block: usize) -> u64
-    requires { ⌜ (block < 32) × (264 ≤ length (now lane)) ⌝ }
-    requires { ⌜ word ≡ number (bitAt (now lane)) (8 * (66 * block / 8)) 64 ⌝ }
-    ensures { λ r. ⌜ r ≡ number (bitAt (now (lane .entry))) (66 * block + 2) 64 ⌝ }
-{
-    let before = 66 * block % 8 + 2;
-    let ninth = lane[66 * block / 8 + 8] as u64;
-    (word << before) + (ninth >> (8 - before))
+    ((word << 2) << (2 * block)) | (next >> (62 - 2 * block))
 }
 
 // A refusal, or 0 with the sync bits of the multiblock read and a 1 for each header that was invalid. Position 0 is the highest bit.
@@ -132,18 +96,21 @@ pub fn read(lane: &[u8], octets: &mut [u8]) -> Headers
             bad: 0,
         };
     }
-    let mut bits: u32 = 0;
-    let mut bad: u32 = 0;
+    let mut first: u32 = 0;
+    let mut second: u32 = 0;
+    let mut word = bits::word_at(lane, 0);
     for block in 0..32usize {
-        let word = bits::word_at(lane, 66 * block / 8);
+        let next = bits::word_at(lane, 8 * (block + 1));
         let header = header_in(word, block);
-        bits = (bits << 1) | carried(header);
-        bad = (bad << 1) | invalid(header);
-        bits::put_word(octets, 8 * block, data_at(word, lane, block));
+        first = (first << 1) | (header >> 1);
+        second = (second << 1) | (header & 1);
+        bits::put_word(octets, 8 * block, data_in(word, next, block));
+        word = next;
     }
+    let valid = first ^ second;
     Headers {
         refusal: 0,
-        bits,
-        bad,
+        bits: second & valid,
+        bad: valid ^ 0xffff_ffff,
     }
 }

@@ -1,6 +1,6 @@
 // Parity: remainders, weights and bursts. Document 01, "Parity"; clauses 7.4.2 and 7.5.2.
 ghost use mathlib.Core.Path.{_≡_};
-ghost use Rattle.bits.specs.Order.{run};
+ghost use Rattle.bits.specs.Order.{run, octetsIn};
 ghost use Rattle.parity.specs.Codeword.{Code, crc12, fec, parityOf, weight};
 ghost use Rattle.parity.specs.Answer.{Answer};
 
@@ -31,6 +31,13 @@ impl Crc12 {
     {
         bitwise::rest(Crc12::WIDTH, Crc12::LOWER, 0, octets, 0)
     }
+
+    // The parity of the octets that words hold, of any number.
+    pub fn of_words(words: &[u64]) -> u32
+        ensures { λ r. ⌜ r ≡ parityOf crc12 (octetsIn (now (words .entry))) ⌝ }
+    {
+        bitwise::of_words(Crc12::WIDTH, Crc12::LOWER, words)
+    }
 }
 
 pub struct Fec;
@@ -51,6 +58,13 @@ impl Fec {
         let count = octets.len() / 8;
         let r = word::words(octets, count);
         bitwise::rest(Fec::WIDTH, Fec::LOWER, r, octets, 8 * count)
+    }
+
+    // The parity of the octets that words hold, of any number.
+    pub fn of_words(words: &[u64]) -> u32
+        ensures { λ r. ⌜ r ≡ parityOf fec (octetsIn (now (words .entry))) ⌝ }
+    {
+        word::of_words(words)
     }
 
     // The weights of all positions.

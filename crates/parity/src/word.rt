@@ -2,7 +2,7 @@
 ghost use mathlib.Core.Path.{_≡_};
 ghost use Prim.Native.Nat.{_*_, _^_, _<_, _≤_};
 ghost use lib.ListN.{length};
-ghost use Rattle.bits.specs.Order.{bitAt, run, digits};
+ghost use Rattle.bits.specs.Order.{bitAt, run, digits, wordBit};
 ghost use Rattle.polynomial.specs.Remainder.{remainderFrom};
 
 fn wide(r: u32) -> u64
@@ -33,6 +33,17 @@ pub(crate) fn words(octets: &[u8], count: usize) -> u32
     let mut s: u32 = 0;
     for i in 0..count {
         s = next_word(s, bits::word_at(octets, 8 * i));
+    }
+    s
+}
+
+// All of a list of words.
+pub(crate) fn of_words(words: &[u64]) -> u32
+    ensures { λ s. ⌜ s ≡ remainderFrom 26 0x0220211 0 (run (wordBit (now (words .entry))) 0 (64 * length (now (words .entry)))) ⌝ }
+{
+    let mut s: u32 = 0;
+    for i in 0..words.len() {
+        s = next_word(s, words[i]);
     }
     s
 }

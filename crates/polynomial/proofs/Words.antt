@@ -5,14 +5,15 @@ use mathlib.Core.List.{List, [], _∷_}
 use Prim.Native.Nat.{ℕ, _+_, _-_, _*_, _/_, _%_, _^_, _≤_, _<_}
 use native.Mathlib.Nat.{zero-add}
 use native.Mathlib.Omega.{arith}
-use lib.ListN.{length}
+use lib.ListN.{length, getD}
 use lib.Dec.{T, eqb, lit<, lit≤}
 use lib.Pow.{shl-exact}
 use lib.Bits.{bitXor, xor-zero-r}
-use Rattle.bits.specs.Order.{bitAt, bitsOf, run, number, digits}
+use Rattle.bits.specs.Order.{bitAt, bitsOf, run, number, digits, wordBit, octetsIn}
 use Rattle.bits.proofs.Xor.{xor-swap}
 use Rattle.bits.proofs.Additive.{Additive, agree-test, shift-right, shift-left, shift-up, low-bits, after}
 use Rattle.bits.proofs.Runs.{run-append, digits-number}
+use Rattle.bits.proofs.WordLists.{wordBit-lt, number-word, bitsOf-octetsIn}
 use Rattle.bits.proofs.Tests.{every}
 use Rattle.polynomial.specs.Polynomial.{scale, timesX}
 use Rattle.polynomial.specs.Remainder.{next, remainderFrom, remainder}
@@ -116,19 +117,30 @@ left-over r word wide h l e =
 pub fecFrom-lt : (bits : List ℕ) → fecFrom 0 bits < 2 ^ 26
 fecFrom-lt bits = from-lt 26 0x0220211 (lit< tt) 0 bits (lit< tt)
 
--- the bits before place a, and then n more
-before : (f : ℕ → ℕ) (a n k m : ℕ) → k ≡ a → a + n ≡ m → fecFrom (fecFrom 0 (run f 0 a)) (run f k n) ≡ fecFrom 0 (run f 0 m)
-before f a n k m p e =
-    ap (λ (k : ℕ). fecFrom (fecFrom 0 (run f 0 a)) (run f k n)) (p ∙ sym (zero-add a))
-    ∙ sym (from-append 26 0x0220211 0 (run f 0 a) (run f (0 + a) n))
-    ∙ ap (fecFrom 0) (sym (run-append f 0 a n) ∙ ap (run f 0) e)
+module _ (w g : ℕ) where
+  -- the bits before place a, and then n more
+  before : (f : ℕ → ℕ) (a n k m : ℕ) → k ≡ a → a + n ≡ m → remainderFrom w g (remainderFrom w g 0 (run f 0 a)) (run f k n) ≡ remainderFrom w g 0 (run f 0 m)
+  before f a n k m p e =
+      ap (λ (k : ℕ). remainderFrom w g (remainderFrom w g 0 (run f 0 a)) (run f k n)) (p ∙ sym (zero-add a))
+      ∙ sym (from-append w g 0 (run f 0 a) (run f (0 + a) n))
+      ∙ ap (remainderFrom w g 0) (sym (run-append f 0 a n) ∙ ap (run f 0) e)
 
--- a word more
-pub word-more : (f : ℕ → ℕ) → ((k : ℕ) → f k < 2) → (i s word : ℕ) → s ≡ fecFrom 0 (run f 0 (64 * i)) → word ≡ number f (8 * (8 * i)) 64
-    → fecFrom s (digits 64 word) ≡ fecFrom 0 (run f 0 (64 * (i + 1)))
-word-more f d i s word p e =
-    ap₂ fecFrom p (ap (digits 64) e ∙ digits-number f d (8 * (8 * i)) 64)
-    ∙ before f (64 * i) 64 (8 * (8 * i)) (64 * (i + 1)) (omega arith) (omega arith)
+  -- a word more
+  pub word-more : (f : ℕ → ℕ) → ((k : ℕ) → f k < 2) → (i k s word : ℕ) → k ≡ 64 * i → s ≡ remainderFrom w g 0 (run f 0 (64 * i)) → word ≡ number f k 64
+      → remainderFrom w g s (digits 64 word) ≡ remainderFrom w g 0 (run f 0 (64 * (i + 1)))
+  word-more f d i k s word at p e =
+      ap₂ (remainderFrom w g) p (ap (digits 64) e ∙ digits-number f d k 64)
+      ∙ before f (64 * i) 64 k (64 * (i + 1)) at (omega arith)
+
+  -- the words of a list: the next, and all
+  module _ (words : List ℕ) where
+    pub word-next : (i s : ℕ) → getD words i 0 < 2 ^ 64 → s ≡ remainderFrom w g 0 (run (wordBit words) 0 (64 * i))
+        → remainderFrom w g s (digits 64 (getD words i 0)) ≡ remainderFrom w g 0 (run (wordBit words) 0 (64 * (i + 1)))
+    word-next i s h p = word-more (wordBit words) (wordBit-lt words) i (64 * i) s (getD words i 0) refl p (sym (number-word words i h))
+
+    pub words-all : remainderFrom w g 0 (run (wordBit words) 0 (64 * length words)) ≡ remainder w g (bitsOf (octetsIn words))
+    unfolding remainder
+    words-all = ap (remainderFrom w g 0) (sym (bitsOf-octetsIn words))
 
 -- the octets that fill no word
 pub words-rest : (octets : List ℕ) (count s : ℕ) → 8 * count ≤ length octets → s ≡ fecFrom 0 (run (bitAt octets) 0 (64 * count))
@@ -136,4 +148,4 @@ pub words-rest : (octets : List ℕ) (count s : ℕ) → 8 * count ≤ length oc
 unfolding remainder bitsOf
 words-rest octets count s h p =
     ap (λ (r : ℕ). fecFrom r (run (bitAt octets) (8 * (8 * count)) (8 * (length octets - 8 * count)))) p
-    ∙ before (bitAt octets) (64 * count) (8 * (length octets - 8 * count)) (8 * (8 * count)) (8 * length octets) (omega arith) (omega arith)
+    ∙ before 26 0x0220211 (bitAt octets) (64 * count) (8 * (length octets - 8 * count)) (8 * (8 * count)) (8 * length octets) (omega arith) (omega arith)

@@ -4,9 +4,9 @@ ghost use Prim.Native.Nat.{_%_, _^_, _≤_};
 ghost use lib.Dec.{eqb};
 ghost use lib.ListN.{length};
 ghost use Rattle.bits.specs.Choice.{pick};
-ghost use Rattle.bits.specs.Order.{bitAt, digit, number, laid};
+ghost use Rattle.bits.specs.Order.{bitAt, digit, number, octetsOf, wordBit, wordsOf, laid};
 ghost use Rattle.bits.specs.Parts.{refusalOf, written};
-ghost use Rattle.scrambler.specs.Scrambling.{sent, plain, scrambled, descrambled, historyAfter};
+ghost use Rattle.scrambler.specs.Scrambling.{sent, plain, descrambled, historyAfter};
 
 // The block sent for a user's block after a history.
 pub fn scramble(user: u64, history: u64) -> u64
@@ -37,25 +37,25 @@ pub struct Turned {
 }
 
 // The 32 blocks of a multiblock, each after the history that the block before leaves.
-fn scramble_blocks(user: &[u8], history: u64, out: &mut [u8]) -> u64
-    requires { ⌜ 256 ≤ length (now out) ⌝ }
+fn scramble_blocks(user: &[u8], history: u64, out: &mut [u64]) -> u64
+    requires { ⌜ 32 ≤ length (now out) ⌝ }
     ensures { λ r. ⌜ r ≡ historyAfter (bitAt (now (user .entry))) history 2048 ⌝ }
-    ensures { λ _. ⌜ now (out .exit) ≡ laid (scrambled (now (user .entry)) history 256) (now (out .entry)) ⌝ }
+    ensures { λ _. ⌜ now (out .exit) ≡ laid (wordsOf (sent (bitAt (now (user .entry))) history) 32) (now (out .entry)) ⌝ }
 {
     let mut past = history_after(history);
     for i in 0..32usize {
         let block = scramble(bits::word_at(user, 8 * i), past);
-        bits::put_word(out, 8 * i, block);
+        out[i] = block;
         past = history_after(block);
     }
     past
 }
 
-// The user's first 256 octets scrambled over the start of `out`.
-pub fn scramble_multiblock(user: &[u8], history: u64, out: &mut [u8]) -> Turned
-    ensures { λ r. ⌜ r .refusal ≡ refusalOf 256 (now (user .entry)) 256 (now (out .entry)) ⌝ }
+// The user's first 256 octets scrambled over the start of `out`, a block in each word.
+pub fn scramble_multiblock(user: &[u8], history: u64, out: &mut [u64]) -> Turned
+    ensures { λ r. ⌜ r .refusal ≡ refusalOf 256 (now (user .entry)) 32 (now (out .entry)) ⌝ }
     ensures { λ r. ⌜ r .history ≡ pick (eqb (r .refusal) 0) (historyAfter (bitAt (now (user .entry))) history 2048) history ⌝ }
-    ensures { λ r. ⌜ now (out .exit) ≡ written (r .refusal) (scrambled (now (user .entry)) history 256) (now (out .entry)) ⌝ }
+    ensures { λ r. ⌜ now (out .exit) ≡ written (r .refusal) (wordsOf (sent (bitAt (now (user .entry))) history) 32) (now (out .entry)) ⌝ }
 {
     if user.len() < 256 {
         return Turned {
@@ -63,7 +63,7 @@ pub fn scramble_multiblock(user: &[u8], history: u64, out: &mut [u8]) -> Turned
             history,
         };
     }
-    if out.len() < 256 {
+    if out.len() < 32 {
         return Turned {
             refusal: 7,
             history,
@@ -76,14 +76,24 @@ pub fn scramble_multiblock(user: &[u8], history: u64, out: &mut [u8]) -> Turned
     }
 }
 
-// The 32 blocks of a multiblock, each after the block received before.
-fn descramble_blocks(octets: &[u8], history: u64, out: &mut [u8])
-    requires { ⌜ 256 ≤ length (now out) ⌝ }
-    ensures { λ _. ⌜ now (out .exit) ≡ laid (descrambled (now (octets .entry)) history 256) (now (out .entry)) ⌝ }
+// The 32 blocks of a multiblock received, a word each.
+fn blocks_of(octets: &[u8], blocks: &mut [u64])
+    requires { ⌜ 32 ≤ length (now blocks) ⌝ }
+    ensures { λ _. ⌜ now (blocks .exit) ≡ laid (wordsOf (bitAt (now (octets .entry))) 32) (now (blocks .entry)) ⌝ }
+{
+    for i in 0..32usize {
+        blocks[i] = bits::word_at(octets, 8 * i);
+    }
+}
+
+// Each of them descrambled after the block before. They come as words, since the compiler takes octets that it sees shifted one by one.
+fn descramble_blocks(blocks: &[u64], history: u64, out: &mut [u8])
+    requires { ⌜ (32 ≤ length (now blocks)) × (256 ≤ length (now out)) ⌝ }
+    ensures { λ _. ⌜ now (out .exit) ≡ laid (octetsOf (plain history (wordBit (now (blocks .entry)))) 256) (now (out .entry)) ⌝ }
 {
     let mut past = history_after(history);
     for i in 0..32usize {
-        let block = bits::word_at(octets, 8 * i);
+        let block = blocks[i];
         bits::put_word(out, 8 * i, descramble(block, past));
         past = history_after(block);
     }
@@ -100,7 +110,9 @@ pub fn descramble_multiblock(octets: &[u8], history: u64, out: &mut [u8]) -> u8
     if out.len() < 256 {
         return 7;
     }
-    descramble_blocks(octets, history, out);
+    let mut blocks = [0u64; 32];
+    blocks_of(octets, &mut blocks[..]);
+    descramble_blocks(&blocks[..], history, out);
     0
 }
 

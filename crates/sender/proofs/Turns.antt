@@ -11,13 +11,14 @@ use lib.ListN.{length, getD, take, drop}
 use lib.Seq.{take-suc, take-length, length-take-le}
 use borrow.Rule.Slice.PartMut.{putMid, midOf, same-len-mid}
 use Rattle.bits.specs.Choice.{pick, bitOf}
-use Rattle.bits.specs.Order.{bitAt, laid}
+use Rattle.bits.specs.Order.{bitAt, wordsOf, octetsIn, laid}
 use Rattle.bits.specs.Parts.{written}
 use Rattle.bits.specs.Parts as Parts
 use Rattle.bits.proofs.Laid.{laid-nothing, laid-all, laid-part}
+use Rattle.bits.proofs.WordLists.{length-wordsOf}
 use Rattle.bits.proofs.Parts.{not-refused, answered}
-use Rattle.scrambler.specs.Scrambling.{scrambled, historyAfter}
-use Rattle.scrambler.proofs.Scrambling.{length-scrambled}
+use Rattle.scrambler.specs.Scrambling.{sent, scrambled, historyAfter}
+use Rattle.scrambler.proofs.Scrambling.{scrambled-words}
 use Rattle.parity.specs.Codeword.{parityOf}
 use Rattle.frame.specs.Modes.{Row, row}
 use Rattle.frame.specs.Lane.{multiblock}
@@ -30,23 +31,24 @@ use Rattle.sender.proofs.States.{number-lt}
 
 -- ---- one multiblock, as the code puts it together
 
-module _ (mode E : ℕ) (s : Sender) (user blank octets old all : List ℕ) (command refusal history sync short parity number : ℕ) (given : length user ≡ 256) (own : length blank ≡ 256) (room : 264 ≤ length old) where
-  pub sent-one : refusal ≡ Parts.refusalOf 256 user 256 blank → history ≡ pick (eqb refusal 0) (historyAfter (bitAt user) (s .history) 2048) (s .history)
-      → octets ≡ written refusal (scrambled user (s .history) 256) blank → sync ≡ syncWord (row mode) (s .parity) command (bitOf (last E s))
-      → short ≡ Parts.refusalOf 256 octets 264 old → all ≡ written short (multiblock 0 sync octets) old
-      → parity ≡ parityOf (row mode .code) octets → number ≡ pick (last E s) 0 (s .number + 1)
+module _ (mode E : ℕ) (s : Sender) (user blank words old all : List ℕ) (command refusal history sync short parity number : ℕ) (given : length user ≡ 256) (own : length blank ≡ 32) (room : 264 ≤ length old) where
+  pub sent-one : refusal ≡ Parts.refusalOf 256 user 32 blank → history ≡ pick (eqb refusal 0) (historyAfter (bitAt user) (s .history) 2048) (s .history)
+      → words ≡ written refusal (wordsOf (sent (bitAt user) (s .history)) 32) blank → sync ≡ syncWord (row mode) (s .parity) command (bitOf (last E s))
+      → short ≡ Parts.refusalOf 32 words 264 old → all ≡ written short (multiblock 0 sync (octetsIn words)) old
+      → parity ≡ parityOf (row mode .code) (octetsIn words) → number ≡ pick (last E s) 0 (s .number + 1)
       → (_≡_ {A = Sender} (record { history = history; parity = parity; number = number }) (afterOne (row mode) E s user)) × (all ≡ laid (sentOne (row mode) E s user command) old)
   unfolding afterOne sentOne
   sent-one e₁ e₂ e₃ e₄ e₅ e₆ e₇ e₈ =
-      let code = scrambled user (s .history) 256 in
-      let none : refusal ≡ 0 = e₁ ∙ not-refused 256 user 256 blank (omega arith) (omega arith) in
-      let size : length code ≡ 256 = length-scrambled user (s .history) 256 in
-      let o : octets ≡ code = e₃ ∙ answered refusal code blank none ∙ laid-all code blank (omega arith) in
-      let long : length octets ≡ 256 = ap length o ∙ size in
-      let fits : short ≡ 0 = e₅ ∙ not-refused 256 octets 264 old (omega arith) room in
+      let code = wordsOf (sent (bitAt user) (s .history)) 32 in
+      let none : refusal ≡ 0 = e₁ ∙ not-refused 256 user 32 blank (omega arith) (omega arith) in
+      let size : length code ≡ 32 = length-wordsOf (sent (bitAt user) (s .history)) 32 in
+      let w : words ≡ code = e₃ ∙ answered refusal code blank none ∙ laid-all code blank (omega arith) in
+      let o : octetsIn words ≡ scrambled user (s .history) 256 = ap octetsIn w ∙ scrambled-words user (s .history) 32 in
+      let long : length words ≡ 32 = ap length w ∙ size in
+      let fits : short ≡ 0 = e₅ ∙ not-refused 32 words 264 old (omega arith) room in
       let h : history ≡ historyAfter (bitAt user) (s .history) 2048 = e₂ ∙ ap (λ (b : Bool). pick b (historyAfter (bitAt user) (s .history) 2048) (s .history)) (eq-eqb refusal 0 none) in (
         rw (h, e₇, o, e₈),
-        e₆ ∙ answered short (multiblock 0 sync octets) old fits ∙ rw (o, e₄, row-gap mode),
+        e₆ ∙ answered short (multiblock 0 sync (octetsIn words)) old fits ∙ rw (o, e₄, row-gap mode),
       )
 
 -- ---- a run of them

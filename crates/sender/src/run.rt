@@ -3,20 +3,20 @@ ghost use mathlib.Core.Path.{_≡_};
 ghost use Prim.Native.Nat.{_*_, _≤_, _<_};
 ghost use lib.ListN.{length};
 ghost use Rattle.bits.specs.Choice.{pick};
-ghost use Rattle.bits.specs.Order.{laid};
+ghost use Rattle.bits.specs.Order.{octetsIn, laid};
 ghost use Rattle.parity.specs.Codeword.{parityOf};
 ghost use Rattle.frame.specs.Modes.{row};
 ghost use Rattle.sender.specs.Lane.{sentOne, afterOne, lane as sentAll, after};
 use crate::Sender;
 
-// The parity of some octets.
-fn parity_of(mode: u8, octets: &[u8]) -> u32
-    ensures { λ r. ⌜ r ≡ parityOf (row mode .code) (now (octets .entry)) ⌝ }
+// The parity of the octets that some words hold.
+fn parity_of(mode: u8, words: &[u64]) -> u32
+    ensures { λ r. ⌜ r ≡ parityOf (row mode .code) (octetsIn (now (words .entry))) ⌝ }
 {
     if mode == 1 {
-        return parity::Fec::of(octets);
+        return parity::Fec::of_words(words);
     }
-    parity::Crc12::of(octets)
+    parity::Crc12::of_words(words)
 }
 
 // The number of the next multiblock: from 0 again after the last of an extended multiblock.
@@ -32,13 +32,13 @@ fn send_one(mode: u8, e: u32, state: Sender, user: &[u8], command: u32, lane: &m
     ensures { λ r. ⌜ r ≡ afterOne (row mode) e state (now (user .entry)) ⌝ }
     ensures { λ _. ⌜ now (lane .exit) ≡ laid (sentOne (row mode) e state (now (user .entry)) command) (now (lane .entry)) ⌝ }
 {
-    let mut octets = [0u8; 256];
-    let turned = scrambler::scramble_multiblock(user, state.history, &mut octets[..]);
-    let parity = parity_of(mode, &octets[..]);
+    let mut words = [0u64; 32];
+    let turned = scrambler::scramble_multiblock(user, state.history, &mut words[..]);
+    let parity = parity_of(mode, &words[..]);
     let next = state.number + 1;
     let last = next == e;
     let sync = frame::sync::word(mode, state.parity, command, last);
-    multiblock::write(sync, &octets[..], lane);
+    multiblock::write(sync, &words[..], lane);
     Sender {
         history: turned.history,
         parity,

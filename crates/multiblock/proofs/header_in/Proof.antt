@@ -1,7 +1,7 @@
 -- `multiblock::header_in` meets its contract.
 -- Assumes nothing.
 use borrow.Author.Needs.{needs}
-use Prim.Native.Nat.{_-_, _*_, _/_, _%_, _^_}
+use Prim.Native.Nat.{_-_, _*_, _/_, _^_}
 use native.Mathlib.Omega.{arith}
 use lib.Bits.{mask-lt}
 use Rattle.frame.proofs.Packing.{two-bits}
@@ -18,10 +18,10 @@ shr-result : tie.Need-shr-result
 shr-result c = search needs
 
 cast-result : tie.Need-cast-result
-cast-result c = omega (arith, mask-lt (c .args .word / 2 ^ (62 - 66 * c .args .block % 8)) 2)
+cast-result c = omega (arith, mask-lt (c .args .word / 2 ^ (62 - 2 * c .args .block)) 2)
 
 returns : tie.Need-returns
-returns c = two-bits (c .args .word) (66 * c .args .block % 8) (omega arith)
+returns c = two-bits (c .args .word) (2 * c .args .block) (omega arith)
 
 pub header-in-spec : {M : Type 1} → statement M
 header-in-spec = tie.close (tie.spec mul-result sub-result shr-result cast-result returns)

@@ -1,69 +1,68 @@
 -- `multiblock::read` meets its contract.
 -- Assumes nothing.
 use borrow.Author.Needs.{needs}
-use Prim.Native.Nat.{ℕ, _-_, _*_, _≤_}
+use Prim.Native.Nat.{ℕ, _+_, _-_, _*_, _≤_}
 use mathlib.Core.Path.{_≡_, refl, sym, ap, _∙_}
+use mathlib.Core.List.{List}
 use native.Mathlib.Omega.{arith}
 use lib.ListN.{length}
 use denote.Ref.{now}
 use Rattle.bits.specs.Order.{bitAt, digit, number, octetsOf, laid, laidAt}
-use Rattle.bits.specs.Parts.{written}
-use Rattle.bits.proofs.Numbers.{bitAt-lt}
+use Rattle.bits.proofs.Numbers.{bitAt-lt, number-none}
 use Rattle.bits.proofs.Laid.{laid-none, laid-word, length-laid-octets}
-use Rattle.bits.proofs.Parts.{few-given, few-lent, not-refused}
-use Rattle.frame.specs.Lane.{dataBit, syncBit, spoiltBit, dataOctets}
+use Rattle.bits.proofs.Parts.{few-given, few-lent, not-refused, untouched, answered}
+use Rattle.frame.specs.Lane.{dataBit, dataOctets}
 use Rattle.frame.proofs.Lane.{dataBit-lt}
-use Rattle.frame.proofs.Packing.{header-read, data-read, sync-more, spoilt-more}
+use Rattle.frame.proofs.Packing.{firstBit, secondBit, data-read, first-more, second-more, sync-read, spoilt-read, octets-read}
 use Rattle.multiblock.proofs.read.Statement.{statement}
 use Rattle.multiblock.proofs.read.Tie as tie
 
 abbrev Inv-loop : tie.InvT-loop
-Inv-loop lane octets₀ bits₀ bad₀ block₀ octets bits bad block =
+Inv-loop lane octets₀ first₀ second₀ word₀ block₀ octets first second word block =
     (block ≤ 32)
-    × (bits ≡ number (syncBit 0 (bitAt lane) 0) 0 block)
-    × (bad ≡ number (spoiltBit 0 (bitAt lane) 0) 0 block)
+    × (first ≡ number (firstBit (bitAt lane)) 0 block)
+    × (second ≡ number (secondBit (bitAt lane)) 0 block)
+    × (word ≡ number (bitAt lane) (64 * block) 64)
     × (octets ≡ laid (octetsOf (dataBit 0 (bitAt lane) 0) (8 * block)) octets₀)
 
 abbrev μ-loop : tie.MeasureT-loop
-μ-loop lane octets₀ bits₀ bad₀ block₀ octets bits bad block = 32 - block
+μ-loop lane octets₀ first₀ second₀ word₀ block₀ octets first second word block = 32 - block
 
 returns : tie.Need-returns Inv-loop μ-loop
-unfolding written
 returns c =
     let a = c .before .before .before .args in
-    (sym (few-given 264 (now (a .lane)) 256 (now (a .octets)) (omega arith)), (refl, (refl, refl)))
+    (sym (few-given 264 (now (a .lane)) 256 (now (a .octets)) (omega arith)), (refl, (refl, sym (untouched 4 (dataOctets 0 (bitAt (now (a .lane))) 0) (now (a .octets)) (λ e. omega arith)))))
 
 returns-2 : tie.Need-returns-2 Inv-loop μ-loop
-unfolding written
 returns-2 c =
     let a = c .before .before .before .before .args in
-    (sym (few-lent 264 (now (a .lane)) 256 (now (a .octets)) (omega arith) (omega arith)), (refl, (refl, refl)))
-
-loop-holds : tie.Need-loop-holds Inv-loop μ-loop
-loop-holds c =
-    let a = c .before .before .before .before .args in
-    (search needs, unfold number in refl, unfold number in refl, laid-none (dataBit 0 (bitAt (now (a .lane))) 0) (now (a .octets)))
-
-mul-word-at : tie.Need-mul-word-at Inv-loop μ-loop
-mul-word-at c = search needs
+    (sym (few-lent 264 (now (a .lane)) 256 (now (a .octets)) (omega arith) (omega arith)), (refl, (refl, sym (untouched 7 (dataOctets 0 (bitAt (now (a .lane))) 0) (now (a .octets)) (λ e. omega arith)))))
 
 word-at-requires : tie.Need-word-at-requires Inv-loop μ-loop
 word-at-requires c κs = search needs
 
+loop-holds : tie.Need-loop-holds Inv-loop μ-loop
+loop-holds c =
+    let a = c .before .before .before .before .before .args in
+    let lane = bitAt (now (a .lane)) in (search needs, number-none (firstBit lane) 0, number-none (secondBit lane) 0, c .word-at .ensures, laid-none (dataBit 0 lane 0) (now (a .octets)))
+
+add-word-at : tie.Need-add-word-at Inv-loop μ-loop
+add-word-at c = search needs
+
+mul-word-at : tie.Need-mul-word-at Inv-loop μ-loop
+mul-word-at c = search needs
+
+word-at-requires-2 : tie.Need-word-at-requires-2 Inv-loop μ-loop
+word-at-requires-2 c κs = search needs
+
 header-in-requires : tie.Need-header-in-requires Inv-loop μ-loop
 header-in-requires c κs = search needs
-
-carried-requires : tie.Need-carried-requires Inv-loop μ-loop
-carried-requires c κs = search needs
-
-invalid-requires : tie.Need-invalid-requires Inv-loop μ-loop
-invalid-requires c κs = search needs
 
 mul-put-word : tie.Need-mul-put-word Inv-loop μ-loop
 mul-put-word c = search needs
 
-data-at-requires : tie.Need-data-at-requires Inv-loop μ-loop
-data-at-requires c κs = (search needs, c .before .before .before .before .word-at .ensures)
+data-in-requires : tie.Need-data-in-requires Inv-loop μ-loop
+data-in-requires c κs = search needs
 
 put-word-requires : tie.Need-put-word-requires Inv-loop μ-loop
 put-word-requires c κs = search needs
@@ -76,36 +75,47 @@ loop-less c = search needs
 
 loop-again : tie.Need-loop-again Inv-loop μ-loop
 loop-again c =
-    let l = c .before .before .before .before .before .before .before .before .before .before .loop in
-    let octets = now (c .before .before .before .before .before .before .before .before .before .before .before .before .before .before .before .args .lane) in
-    let block = c .before .before .before .data-at in
-    let header = c .before .before .before .before .before .before .before .header-in in
-    let is = header-read (bitAt octets) (bitAt-lt octets) (l .block) _ (c .before .before .before .before .before .before .before .before .word-at .result) (header .result) refl (c .before .before .before .before .before .before .before .before .word-at .ensures) (header .ensures) in (
+    let a = c .before .before .before .before .before .before .before .before .before .before .before .before .before .before .args in
+    let l = c .before .before .before .before .before .before .before .before .loop in
+    let lane = bitAt (now (a .lane)) in
+    let bits = bitAt-lt (now (a .lane)) in
+    let next = c .before .before .before .before .before .before .word-at2 in
+    let header = c .before .before .before .before .before .header-in in
+    let block = c .before .before .before .data-in in
+    let place : next .result ≡ number lane (64 * (l .block + 1)) 64 = next .ensures ∙ ap (λ (x : ℕ). number lane x 64) (omega arith) in (
       search needs,
-      sync-more (bitAt octets) (l .block) (header .result) (omega arith) is (l .bits) (c .before .before .before .before .before .before .carried .result) (l .inv .1) (c .before .before .before .before .before .before .carried .ensures),
-      spoilt-more (bitAt octets) (l .block) (header .result) (omega arith) is (l .bad) (c .before .before .before .before .before .invalid .result) (l .inv .2) (c .before .before .before .before .before .invalid .ensures),
+      first-more lane bits (l .block) (l .word) (omega arith) (l .inv .3) (header .result) (header .ensures) (l .first) (l .inv .1),
+      second-more lane bits (l .block) (l .word) (omega arith) (l .inv .3) (header .result) (header .ensures) (l .second) (l .inv .2),
+      place,
       c .before .before .put-word .ensures
-          ∙ ap (laidAt (octetsOf (digit 64 (block .result)) 8) (8 * l .block)) (l .inv .3)
-          ∙ laid-word (dataBit 0 (bitAt octets) 0) (dataBit-lt 0 (bitAt octets) (bitAt-lt octets) 0) (l .block) (block .result) (now (c .before .before .before .before .before .before .before .before .before .before .before .before .before .before .before .args .octets)) (omega arith)
-          (block .ensures ∙ data-read (bitAt octets) (l .block)),
+          ∙ ap (laidAt (octetsOf (digit 64 (block .result)) 8) (8 * l .block)) (l .inv .4)
+          ∙ laid-word (dataBit 0 lane 0) (dataBit-lt 0 lane bits 0) (l .block) (block .result) (now (a .octets)) (omega arith)
+          (data-read lane bits (l .block) (l .word) (omega arith) (l .inv .3) (next .result) (block .result) place (block .ensures)),
     )
 
 same-length : tie.Need-same-length Inv-loop μ-loop
 same-length c =
-    let a = c .before .before .before .before .before .before .args in
+    let a = c .before .before .before .before .before .before .before .args in
     let l = c .before .loop in
-    let f = dataBit 0 (bitAt (now (a .lane))) 0 in
-    ap length (l .inv .3) ∙ length-laid-octets f (8 * l .block) (now (a .octets)) (omega arith)
+    ap length (l .inv .4) ∙ length-laid-octets (dataBit 0 (bitAt (now (a .lane))) 0) (8 * l .block) (now (a .octets)) (omega arith)
 
 returns-3 : tie.Need-returns-3 Inv-loop μ-loop
-unfolding written dataOctets
 returns-3 c =
-    let a = c .before .before .before .before .before .before .args in
+    let a = c .before .before .before .before .before .before .before .args in
     let l = c .before .loop in
+    let lane = bitAt (now (a .lane)) in
+    let bits = bitAt-lt (now (a .lane)) in
     let e : l .block ≡ 32 = omega arith in
-    let lane = bitAt (now (a .lane)) in (
+    let first = l .inv .1 ∙ ap (number (firstBit lane) 0) e in
+    let second = l .inv .2 ∙ ap (number (secondBit lane) 0) e in (
       sym (not-refused 264 (now (a .lane)) 256 (now (a .octets)) (omega arith) (omega arith)),
-      (l .inv .1 ∙ ap (number (syncBit 0 lane 0) 0) e, (l .inv .2 ∙ ap (number (spoiltBit 0 lane 0) 0) e, l .inv .3 ∙ ap (λ (x : ℕ). laid (octetsOf (dataBit 0 lane 0) (8 * x)) (now (a .octets))) e)),
+      (
+        sync-read lane bits (l .first) (l .second) first second,
+        (
+          spoilt-read lane bits (l .first) (l .second) first second,
+          l .inv .4 ∙ ap (λ (x : List ℕ). laid x (now (a .octets))) (octets-read lane (l .block) e) ∙ sym (answered 0 (dataOctets 0 lane 0) (now (a .octets)) refl),
+        ),
+      ),
     )
 
 pub read-spec : {M : Type 1} → statement M
@@ -116,14 +126,14 @@ read-spec =
     μ-loop
     returns
     returns-2
-    loop-holds
-    mul-word-at
     word-at-requires
+    loop-holds
+    add-word-at
+    mul-word-at
+    word-at-requires-2
     header-in-requires
-    carried-requires
-    invalid-requires
     mul-put-word
-    data-at-requires
+    data-in-requires
     put-word-requires
     add-block
     loop-less

@@ -1,76 +1,111 @@
 -- `multiblock::write` meets its contract.
 -- Assumes nothing.
 use borrow.Author.Needs.{needs}
-use Prim.Native.Nat.{ℕ, _-_, _*_, _≤_}
-use mathlib.Core.Path.{_≡_, sym, ap, _∙_}
+use Prim.Native.Nat.{ℕ, _-_, _*_, _%_, _^_, _≤_, _<_}
+use mathlib.Core.Path.{_≡_, refl, sym, ap, _∙_}
+use mathlib.Core.List.{List}
 use native.Mathlib.Omega.{arith}
-use lib.ListN.{length}
+use lib.Dec.{lit≤}
+use lib.ListN.{length, getD}
 use denote.Ref.{now}
-use Rattle.bits.specs.Order.{octetsOf, laid}
-use Rattle.bits.specs.Parts.{written}
-use Rattle.bits.proofs.Laid.{laid-none, length-laid-octets}
-use Rattle.bits.proofs.Parts.{few-given, few-lent, not-refused, untouched}
-use Rattle.frame.specs.Lane.{multiblock, multiblockBit, laneOctets, blockWidth}
-use Rattle.frame.proofs.Packing.{four-more}
+use Rattle.bits.specs.Order.{bitAt, digit, number, octetsOf, octetsIn, laid, laidAt}
+use Rattle.bits.proofs.Numbers.{number-none}
+use Rattle.bits.proofs.Laid.{laid-none, laid-word, length-laid-octets}
+use Rattle.bits.proofs.Parts.{few-given, few-lent, not-refused, untouched, answered}
+use Rattle.bits.proofs.WordLists.{number-octetsIn}
+use Rattle.frame.specs.Lane.{multiblock, multiblockBit}
+use Rattle.frame.proofs.Lane.{multiblockBit-lt}
+use Rattle.frame.proofs.Packing.{word-written, before-next, last-word, octets-written}
 use Rattle.multiblock.proofs.write.Statement.{statement}
 use Rattle.multiblock.proofs.write.Tie as tie
 
+-- the lane up to word `block`, and what the block before leaves for that word
 abbrev Inv-loop : tie.InvT-loop
-Inv-loop sync octets lane₀ four₀ lane four = (four ≤ 8) × (lane ≡ laid (octetsOf (multiblockBit 0 sync octets) (33 * four)) lane₀)
+Inv-loop sync words lane₀ before₀ block₀ lane before block =
+    (block ≤ 32)
+    × (before < 2 ^ 64)
+    × (before % 2 ^ (2 * block) ≡ number (multiblockBit 0 sync (octetsIn words)) (64 * block) (2 * block))
+    × (lane ≡ laid (octetsOf (multiblockBit 0 sync (octetsIn words)) (8 * block)) lane₀)
 
 abbrev μ-loop : tie.MeasureT-loop
-μ-loop sync octets lane₀ four₀ lane four = 8 - four
+μ-loop sync words lane₀ before₀ block₀ lane before block = 32 - block
 
 returns : tie.Need-returns Inv-loop μ-loop
 returns c =
     let a = c .before .before .before .args in
-    (sym (few-given 256 (now (a .octets)) 264 (now (a .lane)) (omega arith)), sym (untouched 4 (multiblock 0 (a .sync) (now (a .octets))) (now (a .lane)) (λ e. omega arith)))
+    (sym (few-given 32 (now (a .words)) 264 (now (a .lane)) (omega arith)), sym (untouched 4 (multiblock 0 (a .sync) (octetsIn (now (a .words)))) (now (a .lane)) (λ e. omega arith)))
 
 returns-2 : tie.Need-returns-2 Inv-loop μ-loop
 returns-2 c =
     let a = c .before .before .before .before .args in
-    (sym (few-lent 256 (now (a .octets)) 264 (now (a .lane)) (omega arith) (omega arith)), sym (untouched 7 (multiblock 0 (a .sync) (now (a .octets))) (now (a .lane)) (λ e. omega arith)))
+    (sym (few-lent 32 (now (a .words)) 264 (now (a .lane)) (omega arith) (omega arith)), sym (untouched 7 (multiblock 0 (a .sync) (octetsIn (now (a .words)))) (now (a .lane)) (λ e. omega arith)))
 
 loop-holds : tie.Need-loop-holds Inv-loop μ-loop
 loop-holds c =
     let a = c .before .before .before .before .args in
-    (search needs, laid-none (multiblockBit 0 (a .sync) (now (a .octets))) (now (a .lane)))
+    let lane = multiblockBit 0 (a .sync) (octetsIn (now (a .words))) in (search needs, lit≤ tt, number-none lane 0, laid-none lane (now (a .lane)))
 
-put-four-requires : tie.Need-put-four-requires Inv-loop μ-loop
-put-four-requires c κs =
-    let a = c .before .before .before .before .before .before .before .args in
-    let l = c .before .before .loop in
-    let f = multiblockBit 0 (a .sync) (now (a .octets)) in
-    let long = ap length (l .inv .1) ∙ length-laid-octets f (33 * l .four) (now (a .lane)) (omega arith) in
-    (omega arith, omega arith)
+mul-own : tie.Need-mul-own Inv-loop μ-loop
+mul-own c = search needs
 
-add-four : tie.Need-add-four Inv-loop μ-loop
-add-four c = search needs
+shared-slice-read-own : tie.Need-shared-slice-read-own Inv-loop μ-loop
+shared-slice-read-own c = search needs
+
+mul-put-word : tie.Need-mul-put-word Inv-loop μ-loop
+mul-put-word c = search needs
+
+lane-word-requires : tie.Need-lane-word-requires Inv-loop μ-loop
+lane-word-requires c κs = search needs
+
+put-word-requires : tie.Need-put-word-requires Inv-loop μ-loop
+put-word-requires c κs = search needs
+
+add-block : tie.Need-add-block Inv-loop μ-loop
+add-block c = search needs
 
 loop-less : tie.Need-loop-less Inv-loop μ-loop
 loop-less c = search needs
 
 loop-again : tie.Need-loop-again Inv-loop μ-loop
 loop-again c =
-    let a = c .before .before .before .before .before .before .before .before .before .before .args in
-    let l = c .before .before .before .before .before .loop in
-    (search needs, four-more (a .sync) (now (a .octets)) (l .four) (now (a .lane)) (omega arith) (l .inv .1) (c .before .before .put-four .ensures))
+    let a = c .before .before .before .before .before .before .before .before .before .before .before .before .args in
+    let l = c .before .before .before .before .before .before .before .loop in
+    let octets = octetsIn (now (a .words)) in
+    let own = getD (now (a .words)) (l .block) 0 in
+    let short : own < 2 ^ 64 = omega (arith, c .before .before .before .before .before .shared-slice-known2 .given (l .block)) in
+    let is : own ≡ number (bitAt octets) (64 * l .block) 64 = sym (number-octetsIn (now (a .words)) (l .block) (omega arith) short) in
+    let word = c .before .before .before .lane-word in (
+      search needs,
+      short,
+      before-next (a .sync) octets (l .block) own (omega arith) is,
+      c .before .before .put-word .ensures
+          ∙ ap (laidAt (octetsOf (digit 64 (word .result)) 8) (8 * l .block)) (l .inv .3)
+          ∙ laid-word (multiblockBit 0 (a .sync) octets) (multiblockBit-lt 0 (a .sync) octets) (l .block) (word .result) (now (a .lane)) (omega arith)
+          (word-written (a .sync) octets (l .block) own (omega arith) is (l .before) (word .result) (l .inv .2) (word .ensures)),
+    )
+
+put-word-requires-2 : tie.Need-put-word-requires-2 Inv-loop μ-loop
+put-word-requires-2 c κs = search needs
 
 same-length : tie.Need-same-length Inv-loop μ-loop
 same-length c =
-    let a = c .before .before .before .before .before .before .args in
-    let l = c .before .loop in
-    let f = multiblockBit 0 (a .sync) (now (a .octets)) in
-    ap length (l .inv .1) ∙ length-laid-octets f (33 * l .four) (now (a .lane)) (omega arith)
+    let a = c .before .before .before .before .before .before .before .before .before .before .args in
+    let l = c .before .before .before .before .before .loop in
+    let long = ap length (l .inv .3) ∙ length-laid-octets (multiblockBit 0 (a .sync) (octetsIn (now (a .words)))) (8 * l .block) (now (a .lane)) (omega arith) in search (needs, long)
 
 returns-3 : tie.Need-returns-3 Inv-loop μ-loop
-unfolding written multiblock laneOctets blockWidth
 returns-3 c =
-    let a = c .before .before .before .before .before .before .args in
-    let l = c .before .loop in
-    let e : 33 * l .four ≡ 264 = omega arith in (
-      sym (not-refused 256 (now (a .octets)) 264 (now (a .lane)) (omega arith) (omega arith)),
-      l .inv .1 ∙ ap (λ (x : ℕ). laid (octetsOf (multiblockBit 0 (a .sync) (now (a .octets))) x) (now (a .lane))) e,
+    let a = c .before .before .before .before .before .before .before .before .before .before .args in
+    let l = c .before .before .before .before .before .loop in
+    let octets = octetsIn (now (a .words)) in
+    let lane = multiblockBit 0 (a .sync) octets in
+    let e : l .block ≡ 32 = omega arith in (
+      sym (not-refused 32 (now (a .words)) 264 (now (a .lane)) (omega arith) (omega arith)),
+      c .before .before .put-word2 .ensures
+          ∙ ap (laidAt (octetsOf (digit 64 (l .before)) 8) 256) (l .inv .3 ∙ ap (λ (x : ℕ). laid (octetsOf lane (8 * x)) (now (a .lane))) e)
+          ∙ laid-word lane (multiblockBit-lt 0 (a .sync) octets) 32 (l .before) (now (a .lane)) (omega arith) (last-word (a .sync) octets (l .block) (l .before) e (l .inv .1) (l .inv .2))
+          ∙ ap (λ (x : List ℕ). laid x (now (a .lane))) (octets-written (a .sync) octets)
+          ∙ sym (answered 0 (multiblock 0 (a .sync) octets) (now (a .lane)) refl),
     )
 
 pub write-spec : {M : Type 1} → statement M
@@ -82,9 +117,14 @@ write-spec =
     returns
     returns-2
     loop-holds
-    put-four-requires
-    add-four
+    mul-own
+    shared-slice-read-own
+    mul-put-word
+    lane-word-requires
+    put-word-requires
+    add-block
     loop-less
     loop-again
+    put-word-requires-2
     same-length
     returns-3)

@@ -3,20 +3,20 @@
 use borrow.Author.Needs.{needs}
 use Prim.Native.Nat.{ℕ, _-_, _*_, _≤_}
 use mathlib.Core.Path.{_≡_, refl, ap, _∙_}
+use mathlib.Core.List.{List}
 use native.Mathlib.Omega.{arith}
-use lib.ListN.{length}
-use Rattle.bits.specs.Order.{bitAt, number, digit, octetsOf, laid, laidAt}
+use lib.ListN.{length, set}
+use Rattle.bits.specs.Order.{bitAt, number, wordsOf, laid}
 use Rattle.bits.proofs.Numbers.{bitAt-lt}
-use Rattle.bits.proofs.Laid.{laid-none, laid-word, length-laid-octets}
-use Rattle.scrambler.specs.Scrambling.{sent, allSent, historyAfter, scrambled}
-use Rattle.scrambler.proofs.Scrambling.{sent-lt}
+use Rattle.bits.proofs.WordLists.{words-none, words-more}
+use Rattle.scrambler.specs.Scrambling.{sent, allSent, historyAfter}
 use Rattle.scrambler.proofs.Blocks.{next-sent, next-history}
 use Rattle.scrambler.proofs.scramble_blocks.Statement.{statement}
 use Rattle.scrambler.proofs.scramble_blocks.Tie as tie
 
 abbrev Inv-loop : tie.InvT-loop
 Inv-loop user history out₀ past₀ i₀ out past i =
-    (i ≤ 32) × (past ≡ historyAfter (bitAt user) history (64 * i)) × (out ≡ laid (octetsOf (sent (bitAt user) history) (8 * i)) out₀)
+    (i ≤ 32) × (length out ≡ length out₀) × (past ≡ historyAfter (bitAt user) history (64 * i)) × (out ≡ laid (wordsOf (sent (bitAt user) history) i) out₀)
 
 abbrev μ-loop : tie.MeasureT-loop
 μ-loop user history out₀ past₀ i₀ out past i = 32 - i
@@ -27,7 +27,7 @@ history-after-requires c κs = search needs
 loop-holds : tie.Need-loop-holds Inv-loop μ-loop
 loop-holds c =
     let a = c .before .before .before .args in
-    (search needs, c .history-after .ensures ∙ unfold historyAfter allSent in refl, laid-none (sent (bitAt (a .user .now)) (a .history)) (a .out .now))
+    (search needs, refl, c .history-after .ensures ∙ unfold historyAfter allSent in refl, words-none (sent (bitAt (a .user .now)) (a .history)) (a .out .now))
 
 mul-word-at : tie.Need-mul-word-at Inv-loop μ-loop
 mul-word-at c = search needs
@@ -38,11 +38,11 @@ word-at-requires c κs = search needs
 scramble-requires : tie.Need-scramble-requires Inv-loop μ-loop
 scramble-requires c κs = search needs
 
-mul-put-word : tie.Need-mul-put-word Inv-loop μ-loop
-mul-put-word c = search needs
+mul-out : tie.Need-mul-out Inv-loop μ-loop
+mul-out c = search needs
 
-put-word-requires : tie.Need-put-word-requires Inv-loop μ-loop
-put-word-requires c κs = search needs
+slice-write-out : tie.Need-slice-write-out Inv-loop μ-loop
+slice-write-out c = search needs
 
 history-after-requires-2 : tie.Need-history-after-requires-2 Inv-loop μ-loop
 history-after-requires-2 c κs = search needs
@@ -55,34 +55,30 @@ loop-less c = search needs
 
 loop-again : tie.Need-loop-again Inv-loop μ-loop
 loop-again c =
-    let a = c .before .before .before .before .before .before .before .before .before .before .before .before .args in
-    let l = c .before .before .before .before .before .before .before .before .loop in
-    let word = c .before .before .before .before .before .before .word-at in
-    let block = c .before .before .before .before .before .scramble in
+    let a = c .before .before .before .before .before .before .before .before .args in
+    let l = c .before .before .before .before .loop in
+    let word = c .before .before .word-at in
+    let block = c .before .scramble in
     let user = bitAt (a .user .now) in
     let bits = bitAt-lt (a .user .now) in
     let at : word .result ≡ number user (64 * l .i) 64 = word .ensures ∙ ap (λ (x : ℕ). number user x 64) (omega arith) in (
       omega arith,
-      c .history-after2 .ensures ∙ next-history user bits (a .history) (l .i) (word .result) (l .past) at (l .inv .1) (block .result) (block .ensures),
-      c .before .before .before .put-word .ensures
-          ∙ ap (laidAt (octetsOf (digit 64 (block .result)) 8) (8 * l .i)) (l .inv .2)
-          ∙ laid-word (sent user (a .history)) (sent-lt user bits (a .history)) (l .i) (block .result) (a .out .now) (omega arith)
-          (block .ensures ∙ next-sent user bits (a .history) (l .i) (word .result) (l .past) at (l .inv .1)),
+      search needs,
+      c .history-after2 .ensures ∙ next-history user bits (a .history) (l .i) (word .result) (l .past) at (l .inv .2) (block .result) (block .ensures),
+      ap (λ (x : List ℕ). set x (l .i) (block .result)) (l .inv .3)
+          ∙ words-more (sent user (a .history)) (l .i) (block .result) (a .out .now) (omega arith)
+          (block .ensures ∙ next-sent user bits (a .history) (l .i) (word .result) (l .past) at (l .inv .2)),
     )
 
 same-length : tie.Need-same-length Inv-loop μ-loop
-same-length c =
-    let a = c .before .before .before .before .before .args in
-    let l = c .before .loop in
-    ap length (l .inv .2) ∙ length-laid-octets (sent (bitAt (a .user .now)) (a .history)) (8 * l .i) (a .out .now) (omega arith)
+same-length c = search needs
 
 returns : tie.Need-returns Inv-loop μ-loop
-unfolding scrambled
 returns c =
     let a = c .before .before .before .before .before .args in
     let l = c .before .loop in
     let e : l .i ≡ 32 = omega arith in
-    (l .inv .1 ∙ ap (λ (x : ℕ). historyAfter (bitAt (a .user .now)) (a .history) (64 * x)) e, l .inv .2 ∙ ap (λ (x : ℕ). laid (octetsOf (sent (bitAt (a .user .now)) (a .history)) (8 * x)) (a .out .now)) e)
+    (l .inv .2 ∙ ap (λ (x : ℕ). historyAfter (bitAt (a .user .now)) (a .history) (64 * x)) e, l .inv .3 ∙ ap (λ (x : ℕ). laid (wordsOf (sent (bitAt (a .user .now)) (a .history)) x) (a .out .now)) e)
 
 pub scramble-blocks-spec : {M : Type 1} → statement M
 scramble-blocks-spec =
@@ -95,8 +91,8 @@ scramble-blocks-spec =
     mul-word-at
     word-at-requires
     scramble-requires
-    mul-put-word
-    put-word-requires
+    mul-out
+    slice-write-out
     history-after-requires-2
     add-i
     loop-less

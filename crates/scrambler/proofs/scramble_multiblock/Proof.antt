@@ -12,13 +12,13 @@ returns : tie.Need-returns
 unfolding written
 returns c =
     let a = c .before .before .before .args in
-    (sym (few-given 256 (a .user .now) 256 (a .out .now) (omega arith)), (refl, refl))
+    (sym (few-given 256 (a .user .now) 32 (a .out .now) (omega arith)), (refl, refl))
 
 returns-2 : tie.Need-returns-2
 unfolding written
 returns-2 c =
     let a = c .before .before .before .before .args in
-    (sym (few-lent 256 (a .user .now) 256 (a .out .now) (omega arith) (omega arith)), (refl, refl))
+    (sym (few-lent 256 (a .user .now) 32 (a .out .now) (omega arith) (omega arith)), (refl, refl))
 
 scramble-blocks-requires : tie.Need-scramble-blocks-requires
 scramble-blocks-requires c κs = search needs
@@ -30,7 +30,7 @@ returns-3 : tie.Need-returns-3
 unfolding written
 returns-3 c =
     let a = c .before .before .before .before .before .before .before .before .args in
-    (sym (not-refused 256 (a .user .now) 256 (a .out .now) (omega arith) (omega arith)), (c .before .before .scramble-blocks .ensures .0, c .before .before .scramble-blocks .ensures .1))
+    (sym (not-refused 256 (a .user .now) 32 (a .out .now) (omega arith) (omega arith)), (c .before .before .scramble-blocks .ensures .0, c .before .before .scramble-blocks .ensures .1))
 
 pub scramble-multiblock-spec : {M : Type 1} → statement M
 scramble-multiblock-spec =

@@ -41,7 +41,7 @@ loop-again : tie.Need-loop-again Inv-loop μ-loop
 loop-again c =
     let l = c .before .before .before .loop in
     let octets = c .before .before .before .before .before .args .octets .now in
-    (search needs, c .next-word .ensures ∙ word-more (bitAt octets) (bitAt-lt octets) (l .i) (l .s) (c .before .word-at .result) (l .inv .1) (c .before .word-at .ensures))
+    (search needs, c .next-word .ensures ∙ word-more 26 0x0220211 (bitAt octets) (bitAt-lt octets) (l .i) (8 * (8 * l .i)) (l .s) (c .before .word-at .result) (omega arith) (l .inv .1) (c .before .word-at .ensures))
 
 returns : tie.Need-returns Inv-loop μ-loop
 returns c =

@@ -1,0 +1,66 @@
+-- `parity::word::of_words` meets its contract.
+-- Assumes nothing.
+use borrow.Author.Needs.{needs}
+use Prim.Native.Nat.{ℕ, _-_, _*_, _≤_}
+use mathlib.Core.Path.{_≡_, refl, ap, _∙_}
+use native.Mathlib.Omega.{arith}
+use lib.ListN.{length}
+use Rattle.bits.specs.Order.{wordBit, run}
+use Rattle.polynomial.specs.Remainder.{remainderFrom}
+use Rattle.polynomial.proofs.Words.{fecFrom-lt, word-next}
+use Rattle.parity.proofs.word.of_words.Statement.{statement}
+use Rattle.parity.proofs.word.of_words.Tie as tie
+
+abbrev Inv-loop : tie.InvT-loop
+Inv-loop words s₀ i₀ i-end s i = (i ≤ length words) × (i-end ≡ length words) × (s ≡ remainderFrom 26 0x0220211 0 (run (wordBit words) 0 (64 * i)))
+
+abbrev μ-loop : tie.MeasureT-loop
+μ-loop words s₀ i₀ i-end s i = length words - i
+
+loop-holds : tie.Need-loop-holds Inv-loop μ-loop
+loop-holds c = (search needs, search needs, unfold remainderFrom run in refl)
+
+mul-next-word : tie.Need-mul-next-word Inv-loop μ-loop
+mul-next-word c = search needs
+
+shared-slice-read-next-word : tie.Need-shared-slice-read-next-word Inv-loop μ-loop
+shared-slice-read-next-word c = search needs
+
+next-word-requires : tie.Need-next-word-requires Inv-loop μ-loop
+next-word-requires c κs =
+    let l = c .before .before .loop in
+    rw (l .inv .2) (fecFrom-lt (run (wordBit (c .before .before .before .before .args .words .now)) 0 (64 * l .i)))
+
+add-i : tie.Need-add-i Inv-loop μ-loop
+add-i c = search needs
+
+loop-less : tie.Need-loop-less Inv-loop μ-loop
+loop-less c = search needs
+
+loop-again : tie.Need-loop-again Inv-loop μ-loop
+loop-again c =
+    let l = c .before .before .before .loop in
+    let words = c .before .before .before .before .before .args .words .now in
+    (search needs, l .inv .1, c .next-word .ensures ∙ word-next 26 0x0220211 words (l .i) (l .s) (c .before .shared-slice-known2 .given (l .i) .fits) (l .inv .2))
+
+returns : tie.Need-returns Inv-loop μ-loop
+returns c =
+    let l = c .before .loop in
+    let words = c .before .before .before .args .words .now in
+    let e : l .i ≡ length words = omega arith in
+    l .inv .2 ∙ ap (λ (i : ℕ). remainderFrom 26 0x0220211 0 (run (wordBit words) 0 (64 * i))) e
+
+pub of-words-spec : {M : Type 1} → statement M
+of-words-spec =
+    tie.close
+    (tie.spec
+    Inv-loop
+    μ-loop
+    loop-holds
+    mul-next-word
+    shared-slice-read-next-word
+    next-word-requires
+    add-i
+    loop-less
+    loop-again
+    returns)
