@@ -46,29 +46,29 @@ headers-keep x header e =
 
 pub record FollowingIn (period : ℕ) (x : ExtendedLock) : Type 0 where
   pub least : 1 ≤ x .good
-  pub good : x .good ≤ 3
+  pub most : x .good ≤ 3
   pub soon : 1 ≤ x .next
-  pub next : x .next ≤ period
+  pub late : x .next ≤ period
 
-pub following-range : (period : ℕ) (x : ExtendedLock) → phaseInRange Following period x ≡ true → FollowingIn period x
+pub following-range : (period : ℕ) (x : ExtendedLock) → phaseInRange Following period (x .good) (x .bad) (x .next) ≡ true → FollowingIn period x
 following-range period x e =
     let a = parts-true _ _ e in
     let b = parts-true _ _ (a .0) in
     let c = parts-true _ _ (b .0) in
     let d = parts-true _ _ (a .1) in
-    record { least = leb-true _ _ (c .0); good = leb-true _ _ (c .1); soon = leb-true _ _ (d .0); next = leb-true _ _ (d .1) }
+    record { least = leb-true _ _ (c .0); most = leb-true _ _ (c .1); soon = leb-true _ _ (d .0); late = leb-true _ _ (d .1) }
 
 pub record LockedIn (period : ℕ) (x : ExtendedLock) : Type 0 where
-  pub bad : x .bad ≤ 7
+  pub most : x .bad ≤ 7
   pub soon : 1 ≤ x .next
-  pub next : x .next ≤ period
+  pub late : x .next ≤ period
 
-pub locked-range : (period : ℕ) (x : ExtendedLock) → phaseInRange Locked period x ≡ true → LockedIn period x
+pub locked-range : (period : ℕ) (x : ExtendedLock) → phaseInRange Locked period (x .good) (x .bad) (x .next) ≡ true → LockedIn period x
 locked-range period x e =
     let a = parts-true (eqb (x .good) 0 && leb (x .bad) 7) _ e in
     let b = parts-true (eqb (x .good) 0) _ (a .0) in
     let d = parts-true _ _ (a .1) in
-    record { bad = leb-true _ _ (b .1); soon = leb-true _ _ (d .0); next = leb-true _ _ (d .1) }
+    record { most = leb-true _ _ (b .1); soon = leb-true _ _ (d .0); late = leb-true _ _ (d .1) }
 
 module _ (period : ℕ) (x : ExtendedLock) (w : headersInRange x ≡ true) where
   hunting-ranged : extendedInRange period (hunting x) ≡ true
@@ -86,27 +86,27 @@ module _ (period : ℕ) (x : ExtendedLock) (w : headersInRange x ≡ true) where
   abbrev Ranged : ExtendedLock → Type 0
   Ranged y = extendedInRange period y ≡ true
 
-  extended-row : (phase : Phase) (look match : Bool) → 1 ≤ period → (look ≡ false → x .next ≡ 1 → ⊥) → phaseInRange phase period x ≡ true → extendedInRange period (extendedRow phase look match period x) ≡ true
+  extended-row : (phase : Phase) (look match : Bool) → 1 ≤ period → (look ≡ false → x .next ≡ 1 → ⊥) → phaseInRange phase period (x .good) (x .bad) (x .next) ≡ true → extendedInRange period (extendedRow phase look match period x) ≡ true
   extended-row Hunting look true h n e = following-ranged 1 period (omega arith) (omega arith) h (omega arith)
   extended-row Hunting look false h n e = hunting-ranged
   extended-row Following false match h n e =
       let i = following-range period x e in
-      following-ranged (x .good) (x .next - 1) (i .least) (i .good) (omega (arith, i .soon, n refl)) (omega (arith, i .next))
+      following-ranged (x .good) (x .next - 1) (i .least) (i .most) (omega (arith, i .soon, n refl)) (omega (arith, i .late))
   extended-row Following true true h n e =
       let i = following-range period x e in
       pick-both Ranged (eqb (x .good + 1) 4) _ _ (λ q. locked-ranged 0 period (omega arith) h (omega arith))
-      (λ q. following-ranged (x .good + 1) period (omega arith) (omega (arith, i .good, eqb-false (x .good + 1) 4 q)) h (omega arith))
+      (λ q. following-ranged (x .good + 1) period (omega arith) (omega (arith, i .most, eqb-false (x .good + 1) 4 q)) h (omega arith))
   extended-row Following true false h n e = hunting-ranged
   extended-row Locked false match h n e =
       let i = locked-range period x e in
-      locked-ranged (x .bad) (x .next - 1) (i .bad) (omega (arith, i .soon, n refl)) (omega (arith, i .next))
+      locked-ranged (x .bad) (x .next - 1) (i .most) (omega (arith, i .soon, n refl)) (omega (arith, i .late))
   extended-row Locked true true h n e = locked-ranged 0 period (omega arith) h (omega arith)
   extended-row Locked true false h n e =
       let i = locked-range period x e in
       pick-both Ranged (eqb (x .bad + 1) 8) _ _ (λ q. hunting-ranged)
-      (λ q. locked-ranged (x .bad + 1) period (omega (arith, i .bad, eqb-false (x .bad + 1) 8 q)) h (omega arith))
+      (λ q. locked-ranged (x .bad + 1) period (omega (arith, i .most, eqb-false (x .bad + 1) 8 q)) h (omega arith))
 
-pub phase-range : (period : ℕ) (x : ExtendedLock) → extendedInRange period x ≡ true → phaseInRange (x .phase) period x ≡ true
+pub phase-range : (period : ℕ) (x : ExtendedLock) → extendedInRange period x ≡ true → phaseInRange (x .phase) period (x .good) (x .bad) (x .next) ≡ true
 unfolding extendedInRange
 phase-range period x e = parts-true (headersInRange x) _ e .1
 
@@ -115,14 +115,10 @@ unfolding extendedInRange
 headers-range period x e = parts-true (headersInRange x) _ e .0
 
 -- a header more changes no count
-pub phase-with : (period : ℕ) (x : ExtendedLock) (header : ℕ) → phaseInRange (x .phase) period x ≡ true → phaseInRange (withHeader x header .phase) period (withHeader x header) ≡ true
+pub phase-with : (period : ℕ) (x : ExtendedLock) (header : ℕ) → phaseInRange (x .phase) period (x .good) (x .bad) (x .next) ≡ true
+    → let y = withHeader x header in phaseInRange (y .phase) period (y .good) (y .bad) (y .next) ≡ true
 unfolding withHeader
-phase-with period x header e = with-row (x .phase) e
-  where
-    with-row : (phase : Phase) → phaseInRange phase period x ≡ true → phaseInRange phase period (withHeader x header) ≡ true
-    with-row Hunting e = e
-    with-row Following e = e
-    with-row Locked e = e
+phase-with period x header e = e
 
 pub extended-keeps : (period : ℕ) (x : ExtendedLock) (header : ℕ) → 1 ≤ period → extendedInRange period x ≡ true → extendedInRange period (extendedStep period x header) ≡ true
 unfolding extendedStep moved

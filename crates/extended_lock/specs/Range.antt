@@ -12,18 +12,18 @@ unfoldable pub headersInRange : ExtendedLock → Bool
 headersInRange x = leb (x .seen) 32 && eqb (x .headers / 2 ^ x .seen) 0
 
 -- blocks to the next look: 1 to 32E
-abbrev pub nextInRange : ℕ → ExtendedLock → Bool
-nextInRange period x = leb 1 (x .next) && leb (x .next) period
+abbrev pub nextInRange : ℕ → ℕ → Bool
+nextInRange period next = leb 1 next && leb next period
 
 -- good 1 to 3 while following, bad at most 7 while locked; a field that the phase doesn't use is 0
-abbrev pub phaseInRange : Phase → ℕ → ExtendedLock → Bool
-phaseInRange Hunting period x = eqb (x .good) 0 && eqb (x .bad) 0 && eqb (x .next) 0
-phaseInRange Following period x = leb 1 (x .good) && leb (x .good) 3 && eqb (x .bad) 0 && nextInRange period x
-phaseInRange Locked period x = eqb (x .good) 0 && leb (x .bad) 7 && nextInRange period x
+abbrev pub phaseInRange : Phase → ℕ → ℕ → ℕ → ℕ → Bool
+phaseInRange Hunting period good bad next = eqb good 0 && eqb bad 0 && eqb next 0
+phaseInRange Following period good bad next = leb 1 good && leb good 3 && eqb bad 0 && nextInRange period next
+phaseInRange Locked period good bad next = eqb good 0 && leb bad 7 && nextInRange period next
 
 -- all of the extended lock's fields
 unfoldable pub extendedInRange : ℕ → ExtendedLock → Bool
-extendedInRange period x = headersInRange x && phaseInRange (x .phase) period x
+extendedInRange period x = headersInRange x && phaseInRange (x .phase) period (x .good) (x .bad) (x .next)
 
 -- is this phase hunting
 abbrev pub isHunting : Phase → Bool

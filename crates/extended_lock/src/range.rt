@@ -15,58 +15,58 @@ fn headers_in_range(lock: ExtendedLock) -> bool
     headers >> lock.seen == 0
 }
 
-fn next_in_range(period: u32, lock: ExtendedLock) -> bool
-    ensures { λ r. ⌜ r ≡ nextInRange period lock ⌝ }
+fn next_in_range(period: u32, next: u32) -> bool
+    ensures { λ r. ⌜ r ≡ nextInRange period next ⌝ }
 {
-    if lock.next < 1 {
+    if next < 1 {
         return false;
     }
-    if lock.next > period {
+    if next > period {
         return false;
     }
     true
 }
 
-fn hunting_in_range(period: u32, lock: ExtendedLock) -> bool
-    ensures { λ r. ⌜ r ≡ phaseInRange Hunting period lock ⌝ }
+fn hunting_in_range(period: u32, good: u32, bad: u32, next: u32) -> bool
+    ensures { λ r. ⌜ r ≡ phaseInRange Hunting period good bad next ⌝ }
 {
-    if lock.good != 0 {
+    if good != 0 {
         return false;
     }
-    if lock.bad != 0 {
+    if bad != 0 {
         return false;
     }
-    if lock.next != 0 {
+    if next != 0 {
         return false;
     }
     true
 }
 
-fn following_in_range(period: u32, lock: ExtendedLock) -> bool
-    ensures { λ r. ⌜ r ≡ phaseInRange Following period lock ⌝ }
+fn following_in_range(period: u32, good: u32, bad: u32, next: u32) -> bool
+    ensures { λ r. ⌜ r ≡ phaseInRange Following period good bad next ⌝ }
 {
-    if lock.good < 1 {
+    if good < 1 {
         return false;
     }
-    if lock.good > 3 {
+    if good > 3 {
         return false;
     }
-    if lock.bad != 0 {
+    if bad != 0 {
         return false;
     }
-    next_in_range(period, lock)
+    next_in_range(period, next)
 }
 
-fn locked_in_range(period: u32, lock: ExtendedLock) -> bool
-    ensures { λ r. ⌜ r ≡ phaseInRange Locked period lock ⌝ }
+fn locked_in_range(period: u32, good: u32, bad: u32, next: u32) -> bool
+    ensures { λ r. ⌜ r ≡ phaseInRange Locked period good bad next ⌝ }
 {
-    if lock.good != 0 {
+    if good != 0 {
         return false;
     }
-    if lock.bad > 7 {
+    if bad > 7 {
         return false;
     }
-    next_in_range(period, lock)
+    next_in_range(period, next)
 }
 
 pub fn in_range(period: u32, lock: ExtendedLock) -> bool
@@ -77,9 +77,9 @@ pub fn in_range(period: u32, lock: ExtendedLock) -> bool
     }
     let phase = lock.phase;
     match phase {
-        Phase::Hunting => hunting_in_range(period, lock),
-        Phase::Following => following_in_range(period, lock),
-        Phase::Locked => locked_in_range(period, lock),
+        Phase::Hunting => hunting_in_range(period, lock.good, lock.bad, lock.next),
+        Phase::Following => following_in_range(period, lock.good, lock.bad, lock.next),
+        Phase::Locked => locked_in_range(period, lock.good, lock.bad, lock.next),
     }
 }
 

@@ -61,7 +61,7 @@ fn hunting_next(period: u32, lock: ExtendedLock, matched: bool) -> ExtendedLock
 }
 
 fn following_next(period: u32, lock: ExtendedLock, look: bool, matched: bool) -> ExtendedLock
-    requires { ⌜ phaseInRange Following period lock ≡ true ⌝ }
+    requires { ⌜ phaseInRange Following period (lock .good) (lock .bad) (lock .next) ≡ true ⌝ }
     ensures { λ r. ⌜ r ≡ extendedRow Following look matched period lock ⌝ }
 {
     if !look {
@@ -78,7 +78,7 @@ fn following_next(period: u32, lock: ExtendedLock, look: bool, matched: bool) ->
 }
 
 fn locked_next(period: u32, lock: ExtendedLock, look: bool, matched: bool) -> ExtendedLock
-    requires { ⌜ phaseInRange Locked period lock ≡ true ⌝ }
+    requires { ⌜ phaseInRange Locked period (lock .good) (lock .bad) (lock .next) ≡ true ⌝ }
     ensures { λ r. ⌜ r ≡ extendedRow Locked look matched period lock ⌝ }
 {
     if !look {
@@ -95,7 +95,7 @@ fn locked_next(period: u32, lock: ExtendedLock, look: bool, matched: bool) -> Ex
 }
 
 fn moved(period: u32, lock: ExtendedLock, matched: bool) -> ExtendedLock
-    requires { ⌜ phaseInRange (lock .phase) period lock ≡ true ⌝ }
+    requires { ⌜ phaseInRange (lock .phase) period (lock .good) (lock .bad) (lock .next) ≡ true ⌝ }
     ensures { λ r. ⌜ r ≡ moved period lock matched ⌝ }
 {
     let look = lock.next == 1;

@@ -12,9 +12,10 @@ use Rattle.extended_lock.specs.declared.Phase.the-variants.{Hunting, Fol
 use Rattle.extended_lock.proofs.range.in_range.Statement.{statement}
 use Rattle.extended_lock.proofs.range.in_range.Tie as tie
 
-rest : (period : ℕ) (x : ExtendedLock) (phase : Phase) (b : Bool) → headersInRange x ≡ true → x .phase ≡ phase → b ≡ phaseInRange phase period x → b ≡ extendedInRange period x
+rest : (period : ℕ) (x : ExtendedLock) (phase : Phase) (b : Bool) → headersInRange x ≡ true → x .phase ≡ phase → b ≡ phaseInRange phase period (x .good) (x .bad) (x .next) → b ≡ extendedInRange period x
 unfolding extendedInRange
-rest period x phase b h q e = e ∙ ap (λ (f : Phase). phaseInRange f period x) (sym q) ∙ ap (λ (t : Bool). t && phaseInRange (x .phase) period x) (sym h)
+rest period x phase b h q e =
+    e ∙ ap (λ (f : Phase). phaseInRange f period (x .good) (x .bad) (x .next)) (sym q) ∙ ap (λ (t : Bool). t && phaseInRange (x .phase) period (x .good) (x .bad) (x .next)) (sym h)
 
 headers-in-range-requires : tie.Need-headers-in-range-requires
 headers-in-range-requires c κs = search needs
@@ -42,13 +43,13 @@ locked-in-range-requires : tie.Need-locked-in-range-requires
 locked-in-range-requires c κs = search needs
 
 returns-2 : tie.Need-returns-2
-returns-2 c = rest _ _ Hunting _ (sym (c .before .before .before .before .headers-in-range .ensures) ∙ not-false _ (c .before .before .before .if1 .left)) (c .before .enum-told .given .1) (c .hunting-in-range .ensures)
+returns-2 c = let a = c .before .before .before .before .before .args in rest (a .period) (a .lock) Hunting _ (sym (c .before .before .before .before .headers-in-range .ensures) ∙ not-false _ (c .before .before .before .if1 .left)) (c .before .enum-told .given .1) (c .hunting-in-range .ensures)
 
 returns-3 : tie.Need-returns-3
-returns-3 c = rest _ _ Following _ (sym (c .before .before .before .before .headers-in-range .ensures) ∙ not-false _ (c .before .before .before .if1 .left)) (c .before .enum-told2 .given .1) (c .following-in-range .ensures)
+returns-3 c = let a = c .before .before .before .before .before .args in rest (a .period) (a .lock) Following _ (sym (c .before .before .before .before .headers-in-range .ensures) ∙ not-false _ (c .before .before .before .if1 .left)) (c .before .enum-told2 .given .1) (c .following-in-range .ensures)
 
 returns-4 : tie.Need-returns-4
-returns-4 c = rest _ _ Locked _ (sym (c .before .before .before .before .headers-in-range .ensures) ∙ not-false _ (c .before .before .before .if1 .left)) (c .before .enum-told3 .given .1) (c .locked-in-range .ensures)
+returns-4 c = let a = c .before .before .before .before .before .args in rest (a .period) (a .lock) Locked _ (sym (c .before .before .before .before .headers-in-range .ensures) ∙ not-false _ (c .before .before .before .if1 .left)) (c .before .enum-told3 .given .1) (c .locked-in-range .ensures)
 
 pub in-range-spec : {M : Type 1} → statement M
 in-range-spec =

@@ -23,7 +23,7 @@ returns-2 : tie.Need-returns-2
 returns-2 c = let a = c .before .before .before .args in simp (not-false (a .look) (c .before .before .if1 .left), not-true (a .matched) (c .before .if2 .taken), c .hunting .ensures)
 
 add-good : tie.Need-add-good
-add-good c = let s = c .before .before .before in omega (arith, following-range (s .args .period) (s .args .lock) (s .pre) .good)
+add-good c = let s = c .before .before .before in omega (arith, following-range (s .args .period) (s .args .lock) (s .pre) .most)
 
 locked-requires : tie.Need-locked-requires
 locked-requires c κs = search needs

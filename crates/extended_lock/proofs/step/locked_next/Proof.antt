@@ -23,7 +23,7 @@ returns-2 : tie.Need-returns-2
 returns-2 c = let a = c .before .before .before .args in simp (not-false (a .look) (c .before .before .if1 .left), c .before .if2 .taken, c .locked2 .ensures)
 
 add-bad : tie.Need-add-bad
-add-bad c = let s = c .before .before .before in omega (arith, locked-range (s .args .period) (s .args .lock) (s .pre) .bad)
+add-bad c = let s = c .before .before .before in omega (arith, locked-range (s .args .period) (s .args .lock) (s .pre) .most)
 
 hunting-requires : tie.Need-hunting-requires
 hunting-requires c κs = search needs

@@ -17,9 +17,9 @@ module _ (period header : ℕ) (x : ExtendedLock) (i : Bool) (e : i ≡ extended
   outside : not i ≡ true → x ≡ pick (extendedInRange period x) (extendedStep period x header) x
   outside n = ap (λ (t : Bool). pick t (extendedStep period x header) x) (sym (not-true i n) ∙ e)
 
-  ready : (y : ExtendedLock) → not i ≡ false → y ≡ withHeader x header → phaseInRange (y .phase) period y ≡ true
+  ready : (y : ExtendedLock) → not i ≡ false → y ≡ withHeader x header → phaseInRange (y .phase) period (y .good) (y .bad) (y .next) ≡ true
   ready y n w =
-      subst (λ (z : ExtendedLock). phaseInRange (z .phase) period z ≡ true) (sym w)
+      subst (λ (z : ExtendedLock). phaseInRange (z .phase) period (z .good) (z .bad) (z .next) ≡ true) (sym w)
       (phase-with period x header (phase-range period x (sym e ∙ not-false i n)))
 
   inside : (y r : ExtendedLock) (m : Bool) → not i ≡ false → y ≡ withHeader x header → m ≡ matches y → r ≡ moved period y m → r ≡ pick (extendedInRange period x) (extendedStep period x header) x
