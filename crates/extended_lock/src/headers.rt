@@ -27,7 +27,7 @@ fn one_more(seen: u32) -> u32
 }
 
 // The oldest of 32 headers goes where one comes.
-pub fn with_header(lock: ExtendedLock, header: u8) -> ExtendedLock
+pub(crate) fn with_header(lock: ExtendedLock, header: u8) -> ExtendedLock
     ensures { λ r. ⌜ r ≡ withHeader lock header ⌝ }
 {
     let bit = sync_bit(header);
@@ -45,7 +45,7 @@ pub fn with_header(lock: ExtendedLock, header: u8) -> ExtendedLock
 }
 
 // The end mark stands at position 22, so nine headers came after it.
-pub fn is_match(lock: ExtendedLock) -> bool
+pub(crate) fn is_match(lock: ExtendedLock) -> bool
     ensures { λ r. ⌜ r ≡ matches lock ⌝ }
 {
     if lock.seen < 32 {
