@@ -16,6 +16,10 @@ pub bitAt-lt : (octets : List ℕ) (k : ℕ) → bitAt octets k < 2
 unfolding bitAt
 bitAt-lt octets k = mod-lt (getD octets (k / 8) 0 / 2 ^ (7 - k % 8)) (zero-lt-suc 1)
 
+pub digit-at : (n v j : ℕ) → digit n v j ≡ v / 2 ^ (n - 1 - j) % 2
+unfolding digit
+digit-at n v j = refl
+
 pub digit-lt : (n v j : ℕ) → digit n v j < 2
 unfolding digit
 digit-lt n v j = mod-lt (v / 2 ^ (n - 1 - j)) (zero-lt-suc 1)

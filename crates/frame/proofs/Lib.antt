@@ -6,3 +6,5 @@ pub mod Lane
 pub mod Packing
 pub mod Sizes
 pub mod Places
+pub mod Headers
+pub mod Modes

@@ -10,19 +10,23 @@ use borrow.Author.Tests.{eq-eqb, ne-eqb}
 use lib.Dec.{eqb}
 use Rattle.bits.specs.Order.{run}
 use Rattle.frame.specs.Headers.{carries}
-use Rattle.lock.specs.Table.{headerHunting, headerLocked, valid, headerStep, withHeader, matches, hunting, moved, extendedStep, freshExtended, lockStep}
+use Rattle.frame.proofs.Headers.{sound-le}
+use Rattle.header_lock.specs.Table.{headerHunting, headerLocked, valid, headerStep}
+use Rattle.header_lock.specs.declared.HeaderLock.{HeaderLock}
+use Rattle.header_lock.proofs.Rows as rows
+use Rattle.extended_lock.specs.Table.{withHeader, matches, hunting, moved, extendedStep, freshExtended}
+use Rattle.extended_lock.specs.declared.ExtendedLock.{ExtendedLock}
+use Rattle.extended_lock.proofs.Rows.{hunts-on, with-hunting, step-by}
+use Rattle.extended_lock.proofs.Matches.{too-few}
+use Rattle.lock.specs.Table.{lockStep}
 use Rattle.lock.specs.Accepted.{widthOf, stepped}
 use Rattle.lock.specs.Run.{after, ran}
 use Rattle.lock.specs.Stream.{Crc12Sync, Crc12Headers, Held}
-use Rattle.lock.specs.declared.HeaderLock.{HeaderLock}
-use Rattle.lock.specs.declared.ExtendedLock.{ExtendedLock}
 use Rattle.lock.specs.declared.Lock.{Lock}
-use Rattle.lock.proofs.Choices.{pick-both}
-use Rattle.lock.proofs.Headers.{sound-le}
 use Rattle.lock.proofs.Runs.{ran-next, never-refused}
-use Rattle.lock.proofs.Follow.{hunts-on, with-hunting, follows}
+use Rattle.lock.proofs.Follow.{follows}
 use Rattle.lock.proofs.Window.{Seen, seen-none, seen-more, seen-step}
-use Rattle.lock.proofs.Ends.{too-few, matches-at-ends}
+use Rattle.lock.proofs.Ends.{matches-at-ends}
 
 -- ---- a valid header, in each state of header lock
 
@@ -32,20 +36,16 @@ withFresh x = record { header = x; extended = freshExtended }
 
 module _ (width period header : ℕ) (k : valid header ≡ true) where
   counts : (n : ℕ) → n < 63 → lockStep width period (withFresh (headerHunting 0 n)) header ≡ withFresh (headerHunting 0 (n + 1))
-  unfolding lockStep headerStep
-  counts n h = simp (k, ne-eqb (n + 1) 64 (λ z. omega arith))
+  unfolding lockStep
+  counts n h = simp (k, rows.counts width 0 n h)
 
   gains : lockStep width period (withFresh (headerHunting 0 63)) header ≡ withFresh (headerLocked 0 0 0)
-  unfolding lockStep headerStep
-  gains = simp k
-
-  stays-locked : (x : HeaderLock) → x .locked ≡ true → headerStep width x true .locked ≡ true
-  unfolding headerStep
-  stays-locked x e = rw e (pick-both (λ (y : HeaderLock). y .locked ≡ true) (eqb (x .run + 1) 64) _ _ (λ q. refl) (λ q. refl))
+  unfolding lockStep
+  gains = simp (k, rows.gains width 0)
 
   keeps : (lock : Lock) → lock .header .locked ≡ true → lockStep width period lock header ≡ record { header = headerStep width (lock .header) true; extended = extendedStep period (lock .extended) header }
   unfolding lockStep
-  keeps lock l = simp (k, l, stays-locked (lock .header) l)
+  keeps lock l = simp (k, l, rows.stays-locked width (lock .header) l)
 
 -- ---- a run over such a lane
 
@@ -95,7 +95,7 @@ module _ (mode E p : ℕ) (headers : ℕ → ℕ) (known : mode ≤ 1) (some : 1
   on zero = ap (λ (y : Lock). y .header .locked) (ap r (add-zero 64) ∙ gained)
   on (suc k) =
       ap (λ (y : Lock). y .header .locked) (ap r (add-suc 64 k) ∙ next (64 + k) ∙ keeps (widthOf mode) (32 * E) (headers (64 + k)) (good (64 + k)) (r (64 + k)) (on k))
-      ∙ stays-locked (widthOf mode) (32 * E) (headers (64 + k)) (good (64 + k)) (r (64 + k) .header) (on k)
+      ∙ rows.stays-locked (widthOf mode) (r (64 + k) .header) (on k)
 
   stepping : (k : ℕ) → x (suc k) ≡ extendedStep (32 * E) (x k) (headers (64 + k))
   unfolding x
@@ -113,8 +113,7 @@ module _ (mode E p : ℕ) (headers : ℕ → ℕ) (known : mode ≤ 1) (some : 1
   seen-with k = seen-more sync k (headers (64 + k)) (x k) (unfold sync in refl) (seen k)
 
   stepping-by : (k : ℕ) (m : Bool) → matches (withHeader (x k) (headers (64 + k))) ≡ m → x (suc k) ≡ moved (32 * E) (withHeader (x k) (headers (64 + k))) m
-  unfolding extendedStep
-  stepping-by k m e = stepping k ∙ ap (moved (32 * E) (withHeader (x k) (headers (64 + k)))) e
+  stepping-by k m e = stepping k ∙ step-by (32 * E) (x k) (headers (64 + k)) m e
 
   -- too few to match
   still : (k : ℕ) → k ≤ 31 → (y : ExtendedLock) × (x k ≡ hunting y)

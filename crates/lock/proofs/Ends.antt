@@ -1,24 +1,20 @@
 -- On an undamaged CRC-12 lane, once 32 headers were seen, exactly the blocks match that end an extended multiblock. Assumes nothing.
 use mathlib.Core.Path.{_≡_, refl, sym, ap, _∙_}
-use mathlib.Core.Bool.{Bool, true, false, _&&_, true≢false}
+use mathlib.Core.Bool.{Bool, true, false, true≢false}
 use mathlib.Core.Logic.{⊎-elim}
 use Prim.Native.Nat.{ℕ, _+_, _-_, _*_, _/_, _%_, _^_, _≤_, _<_}
 use native.Mathlib.Nat.{mod-lt, mod-eq-of-lt, mul-add-mod-self-left, div-add-mod, mod-mod-of-dvd, dvd-mul-right, div-one}
 use native.Mathlib.Omega.{arith}
-use borrow.Author.Tests.{le-leb, lt-leb, eq-eqb, ne-eqb, eqb-true, eqb-false}
-use lib.Dec.{leb, eqb}
+use borrow.Author.Tests.{eq-eqb, ne-eqb, eqb-true, eqb-false}
+use lib.Dec.{eqb}
 use lib.Pow.{mod-pow-add}
-use Rattle.bits.specs.Order.{digit}
-use Rattle.lock.specs.Table.{matches}
+use Rattle.bits.proofs.Choice.{pick-both}
+use Rattle.extended_lock.specs.Table.{matches}
+use Rattle.extended_lock.specs.declared.ExtendedLock.{ExtendedLock}
+use Rattle.extended_lock.proofs.Matches.{match-from, match-tells}
 use Rattle.lock.specs.Stream.{alwaysOne, Crc12Sync}
-use Rattle.lock.specs.declared.ExtendedLock.{ExtendedLock}
-use Rattle.lock.proofs.Choices.{both, parts, pick-both}
 use Rattle.lock.proofs.Follow.{lt-or-ge}
 use Rattle.lock.proofs.Window.{Seen}
-
-pub too-few : (x : ExtendedLock) → x .seen < 32 → matches x ≡ false
-unfolding matches
-too-few x h = ap (λ (b : Bool). b && eqb (digit 32 (x .headers) 22) 1 && eqb (x .headers % 2 ^ 5) 1) (lt-leb 32 (x .seen) h)
 
 -- the five latest bits of a number that ends in 00001
 ending : (x : ℕ) → x % 2 ^ 5 ≡ 1 → (x / 2 ^ 0 % 2 ≡ 1) × (x / 2 ^ 1 % 2 ≡ 0) × (x / 2 ^ 2 % 2 ≡ 0) × (x / 2 ^ 3 % 2 ≡ 0) × (x / 2 ^ 4 % 2 ≡ 0)
@@ -72,7 +68,6 @@ module _ (E p : ℕ) (sync : ℕ → ℕ) (w : Crc12Sync E p sync) (some : 1 ≤
     bit i r = v .window i (n - i) r (omega arith)
 
     end-matches : (n + p) % (32 * E) ≡ 32 * E - 1 → matches x ≡ true
-    unfolding matches digit
     end-matches r =
         let m : (n + p) % 32 ≡ 31 = sym (position n) ∙ ap (λ (a : ℕ). a % 32) r ∙ omega arith in
         let z : (i : ℕ) → 1 ≤ i → i ≤ 4 → sync (n - i) ≡ 0 = λ i a b. w .zeros (n - i) (omega arith) (omega arith) in
@@ -80,18 +75,14 @@ module _ (E p : ℕ) (sync : ℕ → ℕ) (w : Crc12Sync E p sync) (some : 1 ≤
         let t : sync (n - 9) ≡ 1 = w .lastMark (n - 9) (back n 9 (omega arith) (omega arith) ∙ omega arith) in
         let f : x .headers % 2 ^ 5 ≡ 1 =
         ended (x .headers) (bit 0 (omega arith) ∙ o) (bit 1 (omega arith) ∙ z 1 (omega arith) (omega arith)) (bit 2 (omega arith) ∙ z 2 (omega arith) (omega arith)) (bit 3 (omega arith) ∙ z 3 (omega arith) (omega arith)) (bit 4 (omega arith) ∙ z 4 (omega arith) (omega arith)) in
-        both (leb 32 (x .seen) && eqb (x .headers / 2 ^ 9 % 2) 1) _
-        (both (leb 32 (x .seen)) _ (le-leb 32 (x .seen) (omega (arith, v .many (omega arith)))) (eq-eqb (x .headers / 2 ^ 9 % 2) 1 (bit 9 (omega arith) ∙ t)))
-        (eq-eqb (x .headers % 2 ^ 5) 1 f)
+        match-from x (omega (arith, v .many (omega arith))) (bit 9 (omega arith) ∙ t) f
 
     match-ends : matches x ≡ true → (n + p) % (32 * E) ≡ 32 * E - 1
-    unfolding matches digit
     match-ends r =
         let c = (n + p) % (32 * E) in
-        let a = parts (leb 32 (x .seen) && eqb (x .headers / 2 ^ 9 % 2) 1) (eqb (x .headers % 2 ^ 5) 1) r in
-        let b = parts (leb 32 (x .seen)) (eqb (x .headers / 2 ^ 9 % 2) 1) (a .0) in
-        let f = ending (x .headers) (eqb-true (x .headers % 2 ^ 5) 1 (a .1)) in
-        let t : sync (n - 9) ≡ 1 = sym (bit 9 (omega arith)) ∙ eqb-true (x .headers / 2 ^ 9 % 2) 1 (b .1) in
+        let a = match-tells x r in
+        let f = ending (x .headers) (a .1) in
+        let t : sync (n - 9) ≡ 1 = sym (bit 9 (omega arith)) ∙ a .0 in
         let o : sync n ≡ 1 = ap sync {x = n} {y = n - 0} (omega arith) ∙ sym (bit 0 (omega arith)) ∙ f .0 in
         let z₁ : sync (n - 1) ≡ 0 = sym (bit 1 (omega arith)) ∙ f .1 in
         let z₂ : sync (n - 2) ≡ 0 = sym (bit 2 (omega arith)) ∙ f .2 in

@@ -8,9 +8,10 @@ use native.Mathlib.Nat.{suc-mod, mod-lt, mod-self, mod-eq-of-lt, eq-zero-or-pos,
 use native.Mathlib.Omega.{arith}
 use borrow.Author.Tests.{eq-eqb, ne-eqb}
 use lib.Dec.{eqb}
-use Rattle.lock.specs.Table.{withHeader, hunting, following, locked, moved}
-use Rattle.lock.specs.declared.Phase.the-variants.{Locked}
-use Rattle.lock.specs.declared.ExtendedLock.{ExtendedLock}
+use Rattle.extended_lock.specs.Table.{withHeader, hunting, following, locked, moved}
+use Rattle.extended_lock.specs.declared.Phase.the-variants.{Locked}
+use Rattle.extended_lock.specs.declared.ExtendedLock.{ExtendedLock}
+use Rattle.extended_lock.proofs.Rows.{with-hunting, with-following, with-locked, hunts-on, finds, waits, confirms, locks, holds-on, holds-again}
 
 pub lt-or-ge : (m n : ℕ) → (m < n) ⊎ (n ≤ m)
 lt-or-ge m n = ⊎-elim (λ (e : n - m ≡ 0). inr (omega arith)) (λ (h : 0 < n - m). inl (omega arith)) (eq-zero-or-pos (n - m))
@@ -28,51 +29,6 @@ turn period m h =
     let z : suc (m % period) ≡ period = omega arith in
     around (omega arith) (suc-mod m period ∙ ap (λ (y : ℕ). y % period) z ∙ mod-self period))
     (lt-or-ge (suc (m % period)) period)
-
--- ---- the rows of the table that are met
-
-module _ (period : ℕ) (x : ExtendedLock) where
-  pub hunts-on : moved period (hunting x) false ≡ hunting x
-  unfolding moved
-  hunts-on = refl
-
-  finds : moved period (hunting x) true ≡ following x 1 period
-  unfolding moved
-  finds = refl
-
-  waits : (good next : ℕ) → 1 < next → moved period (following x good next) false ≡ following x good (next - 1)
-  unfolding moved
-  waits good next h = simp (ne-eqb next 1 (λ z. omega arith))
-
-  confirms : (good next : ℕ) → next ≡ 1 → good < 3 → moved period (following x good next) true ≡ following x (good + 1) period
-  unfolding moved
-  confirms good next h k = simp (eq-eqb next 1 h, ne-eqb (good + 1) 4 (λ z. omega arith))
-
-  locks : (next : ℕ) → next ≡ 1 → moved period (following x 3 next) true ≡ locked x 0 period
-  unfolding moved
-  locks next h = simp (eq-eqb next 1 h)
-
-  holds-on : (next : ℕ) → 1 < next → moved period (locked x 0 next) false ≡ locked x 0 (next - 1)
-  unfolding moved
-  holds-on next h = simp (ne-eqb next 1 (λ z. omega arith))
-
-  holds-again : (next : ℕ) → next ≡ 1 → moved period (locked x 0 next) true ≡ locked x 0 period
-  unfolding moved
-  holds-again next h = simp (eq-eqb next 1 h)
-
--- a header more leaves the phase
-module _ (x : ExtendedLock) (header : ℕ) where
-  pub with-hunting : withHeader (hunting x) header ≡ hunting (withHeader x header)
-  unfolding withHeader
-  with-hunting = refl
-
-  with-following : (good next : ℕ) → withHeader (following x good next) header ≡ following (withHeader x header) good next
-  unfolding withHeader
-  with-following good next = refl
-
-  with-locked : (bad next : ℕ) → withHeader (locked x bad next) header ≡ locked (withHeader x header) bad next
-  unfolding withHeader
-  with-locked bad next = refl
 
 -- ---- on the way: the next block is number c, and in t blocks the lock is held
 

@@ -6,5 +6,3 @@ pub mod Ranges
 pub mod Follow
 pub mod Ends
 pub mod Window
-pub mod Headers
-pub mod Choices

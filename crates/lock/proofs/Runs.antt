@@ -14,7 +14,7 @@ use Rattle.lock.specs.Accepted.{accepted, widthOf, stepped}
 use Rattle.lock.specs.Run.{after, ran}
 use Rattle.lock.specs.declared.Lock.{Lock}
 use Rattle.lock.specs.declared.Stepped.{Stepped}
-use Rattle.lock.proofs.Headers.{width-is}
+use Rattle.frame.proofs.Modes.{width-is}
 use Rattle.lock.proofs.Ranges.{accepted-step, accepted-fresh, Taken, stepped-taken}
 
 pub after-append : (mode E : ℕ) (lock : Lock) (a b : List ℕ) → after mode E lock (a ++ b) ≡ after mode E (after mode E lock a) b

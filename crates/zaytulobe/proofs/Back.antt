@@ -8,8 +8,8 @@ use lib.Dec.{T, leb, eqb, leb→le}
 use Rattle.bits.specs.Choice.{bitOf}
 use Rattle.bits.proofs.Tests.{left, right}
 use Rattle.receiver.specs.declared.Receiver.{Receiver}
-use Rattle.lock.specs.declared.Phase.{Phase}
-use Rattle.lock.specs.declared.Phase.the-variants.{Hunting, Following, Locked}
+use Rattle.extended_lock.specs.declared.Phase.{Phase}
+use Rattle.extended_lock.specs.declared.Phase.the-variants.{Hunting, Following, Locked}
 use Rattle.lock.specs.declared.Lock.{Lock}
 use Rattle.zaytulobe.specs.declared.receiving.ReceiverNumbers.{ReceiverNumbers}
 use Rattle.zaytulobe.specs.declared.locking.LockNumbers.{LockNumbers}

@@ -4,8 +4,8 @@ use mathlib.Core.Bool.{Bool, _&&_}
 use Prim.Native.Nat.{ℕ}
 use lib.Dec.{ltb, leb, eqb}
 use Rattle.bits.specs.Choice.{pick, bitOf}
-use Rattle.lock.specs.declared.Phase.{Phase}
-use Rattle.lock.specs.declared.Phase.the-variants.{Hunting, Following, Locked}
+use Rattle.extended_lock.specs.declared.Phase.{Phase}
+use Rattle.extended_lock.specs.declared.Phase.the-variants.{Hunting, Following, Locked}
 use Rattle.lock.specs.declared.Lock.{Lock}
 use Rattle.lock.specs.declared.Stepped.{Stepped}
 use Rattle.lock.specs.Accepted as lock

@@ -5,10 +5,10 @@ ghost use lib.Dec.{ltb, leb};
 ghost use Rattle.bits.specs.Choice.{pick, bitOf};
 ghost use Rattle.lock.specs.Table.{fresh};
 ghost use Rattle.zaytulobe.specs.Locking.{numbersFit, phaseOf, phaseNumber, lockOf, numbersOf, stepped};
-use lock::ExtendedLock;
-use lock::HeaderLock;
+use extended_lock::ExtendedLock;
+use extended_lock::Phase;
+use header_lock::HeaderLock;
 use lock::Lock;
-use lock::Phase;
 
 // Header lock as numbers: `locked` is 0 or 1.
 #[repr(C)]

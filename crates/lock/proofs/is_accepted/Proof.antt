@@ -5,7 +5,9 @@ use Prim.Native.Nat.{ℕ}
 use mathlib.Core.Path.{_≡_, sym, _∙_}
 use mathlib.Core.Bool.{Bool, true, false}
 use borrow.Author.Tests.{not-true, not-false}
-use Rattle.lock.specs.Accepted.{accepted, headerInRange, extendedInRange, isFresh}
+use Rattle.header_lock.specs.Range.{headerInRange}
+use Rattle.extended_lock.specs.Range.{extendedInRange, isFresh}
+use Rattle.lock.specs.Accepted.{accepted}
 use Rattle.lock.specs.declared.Lock.{Lock}
 use Rattle.lock.proofs.is_accepted.Statement.{statement}
 use Rattle.lock.proofs.is_accepted.Tie as tie
@@ -19,36 +21,36 @@ module _ (width period : ℕ) (lock : Lock) where
   unfolding accepted
   waits b h x l e = simp (h, x, l, e)
 
-header-in-range-requires : tie.Need-header-in-range-requires
-header-in-range-requires c κs = search needs
+in-range-requires : tie.Need-in-range-requires
+in-range-requires c κs = search needs
 
 returns : tie.Need-returns
 unfolding accepted
-returns c = simp (sym (c .before .header-in-range .ensures) ∙ not-true _ (c .if1 .taken))
+returns c = simp (sym (c .before .in-range .ensures) ∙ not-true _ (c .if1 .taken))
 
-extended-in-range-requires : tie.Need-extended-in-range-requires
-extended-in-range-requires c κs = search needs
+in-range-requires-2 : tie.Need-in-range-requires-2
+in-range-requires-2 c κs = search needs
 
 returns-2 : tie.Need-returns-2
 unfolding accepted
-returns-2 c = simp (sym (c .before .before .before .header-in-range .ensures) ∙ not-false _ (c .before .before .if1 .left), sym (c .before .extended-in-range .ensures) ∙ not-true _ (c .if2 .taken))
+returns-2 c = simp (sym (c .before .before .before .in-range .ensures) ∙ not-false _ (c .before .before .if1 .left), sym (c .before .in-range2 .ensures) ∙ not-true _ (c .if2 .taken))
 
 returns-3 : tie.Need-returns-3
-returns-3 c = let a = c .before .before .before .before .before .before .before .args in held (a .width) (a .period) (a .lock) (sym (c .before .before .before .before .header-in-range .ensures) ∙ not-false _ (c .before .before .before .if1 .left)) (sym (c .before .before .extended-in-range .ensures) ∙ not-false _ (c .before .if2 .left)) (c .if3 .taken)
+returns-3 c = let a = c .before .before .before .before .before .before .before .args in held (a .width) (a .period) (a .lock) (sym (c .before .before .before .before .in-range .ensures) ∙ not-false _ (c .before .before .before .if1 .left)) (sym (c .before .before .in-range2 .ensures) ∙ not-false _ (c .before .if2 .left)) (c .if3 .taken)
 
 is-fresh-requires : tie.Need-is-fresh-requires
 is-fresh-requires c κs = search needs
 
 returns-4 : tie.Need-returns-4
-returns-4 c = let a = c .before .before .before .before .before .before .before .before .args in waits (a .width) (a .period) (a .lock) _ (sym (c .before .before .before .before .before .header-in-range .ensures) ∙ not-false _ (c .before .before .before .before .if1 .left)) (sym (c .before .before .before .extended-in-range .ensures) ∙ not-false _ (c .before .before .if2 .left)) (c .before .if3 .left) (c .is-fresh .ensures)
+returns-4 c = let a = c .before .before .before .before .before .before .before .before .args in waits (a .width) (a .period) (a .lock) _ (sym (c .before .before .before .before .before .in-range .ensures) ∙ not-false _ (c .before .before .before .before .if1 .left)) (sym (c .before .before .before .in-range2 .ensures) ∙ not-false _ (c .before .before .if2 .left)) (c .before .if3 .left) (c .is-fresh .ensures)
 
 pub is-accepted-spec : {M : Type 1} → statement M
 is-accepted-spec =
     tie.close
     (tie.spec
-    header-in-range-requires
+    in-range-requires
     returns
-    extended-in-range-requires
+    in-range-requires-2
     returns-2
     returns-3
     is-fresh-requires

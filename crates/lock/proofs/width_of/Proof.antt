@@ -1,7 +1,7 @@
 -- `lock::width_of` meets its contract.
 -- Assumes nothing.
 use mathlib.Core.Path.{sym}
-use Rattle.lock.proofs.Headers.{width-is}
+use Rattle.frame.proofs.Modes.{width-is}
 use Rattle.lock.proofs.width_of.Statement.{statement}
 use Rattle.lock.proofs.width_of.Tie as tie
 

@@ -4,14 +4,14 @@ use borrow.Author.Needs.{needs}
 use Rattle.lock.proofs.Lock.fresh.Statement.{statement}
 use Rattle.lock.proofs.Lock.fresh.Tie as tie
 
-header-hunting-requires : tie.Need-header-hunting-requires
-header-hunting-requires c κs = search needs
+fresh-requires : tie.Need-fresh-requires
+fresh-requires c κs = search needs
 
-fresh-extended-requires : tie.Need-fresh-extended-requires
-fresh-extended-requires c κs = search needs
+fresh-requires-2 : tie.Need-fresh-requires-2
+fresh-requires-2 c κs = search needs
 
 returns : tie.Need-returns
-returns c = simp (c .before .header-hunting .ensures, c .fresh-extended .ensures)
+returns c = simp (c .before .fresh .ensures, c .fresh2 .ensures)
 
 pub fresh-spec : {M : Type 1} → statement M
-fresh-spec = tie.close (tie.spec header-hunting-requires fresh-extended-requires returns)
+fresh-spec = tie.close (tie.spec fresh-requires fresh-requires-2 returns)

@@ -1,0 +1,4 @@
+-- Laws of extended lock.
+pub mod Rows
+pub mod Matches
+pub mod Ranges

@@ -1,0 +1,25 @@
+-- `extended_lock::range::following_in_range` meets its contract.
+-- Assumes nothing.
+use borrow.Author.Needs.{needs}
+use borrow.Author.Tests.{le-leb, lt-leb, eq-eqb, ne-eqb}
+use Rattle.extended_lock.proofs.range.following_in_range.Statement.{statement}
+use Rattle.extended_lock.proofs.range.following_in_range.Tie as tie
+
+returns : tie.Need-returns
+returns c = simp (lt-leb _ _ (c .if1 .taken))
+
+returns-2 : tie.Need-returns-2
+returns-2 c = simp (le-leb _ _ (c .before .if1 .left), lt-leb _ _ (c .if2 .taken))
+
+returns-3 : tie.Need-returns-3
+returns-3 c = simp (le-leb _ _ (c .before .before .if1 .left), le-leb _ _ (c .before .if2 .left), ne-eqb _ _ (c .if3 .taken))
+
+next-in-range-requires : tie.Need-next-in-range-requires
+next-in-range-requires c κs = search needs
+
+returns-4 : tie.Need-returns-4
+returns-4 c = simp (le-leb _ _ (c .before .before .before .if1 .left), le-leb _ _ (c .before .before .if2 .left), eq-eqb _ _ (c .before .if3 .left), c .next-in-range .ensures)
+
+pub following-in-range-spec : {M : Type 1} → statement M
+following-in-range-spec =
+    tie.close (tie.spec returns returns-2 returns-3 next-in-range-requires returns-4)

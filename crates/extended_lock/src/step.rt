@@ -1,0 +1,120 @@
+// One header for extended lock: clause 7.6.2; document 01, "Lock tables".
+ghost use mathlib.Core.Path.{_≡_};
+ghost use mathlib.Core.Bool.{true};
+ghost use lib.Dec.{eqb};
+ghost use Rattle.bits.specs.Choice.{pick};
+ghost use Rattle.extended_lock.specs.Table.{hunting, following, locked, extendedRow, moved, extendedStep};
+ghost use Rattle.extended_lock.specs.Range.{phaseInRange, extendedInRange};
+ghost use Rattle.extended_lock.specs.declared.Phase.the-variants.{Hunting, Following, Locked};
+use crate::ExtendedLock;
+use crate::Phase;
+use crate::headers::is_match;
+use crate::headers::with_header;
+use crate::range::in_range;
+
+fn hunting(lock: ExtendedLock) -> ExtendedLock
+    ensures { λ r. ⌜ r ≡ hunting lock ⌝ }
+{
+    ExtendedLock {
+        phase: Phase::Hunting,
+        seen: lock.seen,
+        headers: lock.headers,
+        good: 0,
+        bad: 0,
+        next: 0,
+    }
+}
+
+fn following(lock: ExtendedLock, good: u32, next: u32) -> ExtendedLock
+    ensures { λ r. ⌜ r ≡ following lock good next ⌝ }
+{
+    ExtendedLock {
+        phase: Phase::Following,
+        seen: lock.seen,
+        headers: lock.headers,
+        good,
+        bad: 0,
+        next,
+    }
+}
+
+fn locked(lock: ExtendedLock, bad: u32, next: u32) -> ExtendedLock
+    ensures { λ r. ⌜ r ≡ locked lock bad next ⌝ }
+{
+    ExtendedLock {
+        phase: Phase::Locked,
+        seen: lock.seen,
+        headers: lock.headers,
+        good: 0,
+        bad,
+        next,
+    }
+}
+
+fn hunting_next(period: u32, lock: ExtendedLock, matched: bool) -> ExtendedLock
+    ensures { λ r. ⌜ r ≡ extendedRow Hunting (eqb (lock .next) 1) matched period lock ⌝ }
+{
+    if matched {
+        return following(lock, 1, period);
+    }
+    hunting(lock)
+}
+
+fn following_next(period: u32, lock: ExtendedLock, look: bool, matched: bool) -> ExtendedLock
+    requires { ⌜ phaseInRange Following period (lock .good) (lock .bad) (lock .next) ≡ true ⌝ }
+    ensures { λ r. ⌜ r ≡ extendedRow Following look matched period lock ⌝ }
+{
+    if !look {
+        return following(lock, lock.good, lock.next - 1);
+    }
+    if !matched {
+        return hunting(lock);
+    }
+    let good = lock.good + 1;
+    if good == 4 {
+        return locked(lock, 0, period);
+    }
+    following(lock, good, period)
+}
+
+fn locked_next(period: u32, lock: ExtendedLock, look: bool, matched: bool) -> ExtendedLock
+    requires { ⌜ phaseInRange Locked period (lock .good) (lock .bad) (lock .next) ≡ true ⌝ }
+    ensures { λ r. ⌜ r ≡ extendedRow Locked look matched period lock ⌝ }
+{
+    if !look {
+        return locked(lock, lock.bad, lock.next - 1);
+    }
+    if matched {
+        return locked(lock, 0, period);
+    }
+    let bad = lock.bad + 1;
+    if bad == 8 {
+        return hunting(lock);
+    }
+    locked(lock, bad, period)
+}
+
+fn moved(period: u32, lock: ExtendedLock, matched: bool) -> ExtendedLock
+    requires { ⌜ phaseInRange (lock .phase) period (lock .good) (lock .bad) (lock .next) ≡ true ⌝ }
+    ensures { λ r. ⌜ r ≡ moved period lock matched ⌝ }
+{
+    let look = lock.next == 1;
+    let phase = lock.phase;
+    match phase {
+        Phase::Hunting => hunting_next(period, lock, matched),
+        Phase::Following => following_next(period, lock, look, matched),
+        Phase::Locked => locked_next(period, lock, look, matched),
+    }
+}
+
+// The state after one more header; a state out of range is given back.
+pub fn next(period: u32, lock: ExtendedLock, header: u8) -> ExtendedLock
+    ensures { λ r. ⌜ r ≡ pick (extendedInRange period lock) (extendedStep period lock header) lock ⌝ }
+{
+    if !in_range(period, lock) {
+        return lock;
+    }
+    let lock = with_header(lock, header);
+    let matched = is_match(lock);
+    moved(period, lock, matched)
+}

@@ -1,0 +1,3 @@
+-- Laws of header lock.
+pub mod Rows
+pub mod Ranges

@@ -1,0 +1,3 @@
+-- What header lock does with each header, and which of its states are in range.
+pub mod Table
+pub mod Range
