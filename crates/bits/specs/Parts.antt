@@ -7,7 +7,7 @@ use lib.ListN.{length}
 use Rattle.bits.specs.Choice.{pick}
 use Rattle.bits.specs.Order.{laid}
 
--- 4: fewer than n octets are given; 7: fewer than m are lent for the answer
+-- 4: fewer than n octets or words are given; 7: fewer than m are lent for the answer
 unfoldable pub refusalOf : ℕ → List ℕ → ℕ → List ℕ → ℕ
 refusalOf n given m lent = pick (ltb (length given) n) 4 (pick (ltb (length lent) m) 7 0)
 

@@ -15,16 +15,17 @@ fn next_bit(w: u32, g: u32, r: u32, bit: u32) -> u32
     (top * g) ^ (up & ((1u32 << w) - 1))
 }
 
-// The low bits of a word, highest first.
-fn next_bits(w: u32, g: u32, r: u32, count: u64, word: u64) -> u32
-    requires { ⌜ (w ≤ 31) × (g < 2 ^ w) × (r < 2 ^ w) × (count ≤ 64) ⌝ }
-    ensures { λ s. ⌜ s ≡ remainderFrom w g r (digits count word) ⌝ }
+// Eight bits more, highest first.
+fn next_octet(w: u32, g: u32, r: u32, octet: u8) -> u32
+    requires { ⌜ (w ≤ 31) × (g < 2 ^ w) × (r < 2 ^ w) ⌝ }
+    ensures { λ s. ⌜ s ≡ remainderFrom w g r (digits 8 octet) ⌝ }
 {
+    let bits = octet as u32;
     let mut s = r;
-    let mut k = count;
+    let mut k: u32 = 8;
     while 0 < k {
         k -= 1;
-        s = next_bit(w, g, s, ((word >> k) % 2) as u32);
+        s = next_bit(w, g, s, (bits >> k) & 1);
     }
     s
 }
@@ -36,19 +37,20 @@ pub(crate) fn rest(w: u32, g: u32, r: u32, octets: &[u8], from: usize) -> u32
 {
     let mut s = r;
     for i in from..octets.len() {
-        s = next_bits(w, g, s, 8, octets[i] as u64);
+        s = next_octet(w, g, s, octets[i]);
     }
     s
 }
 
-// All words.
+// All words, octet by octet.
 pub(crate) fn of_words(w: u32, g: u32, words: &[u64]) -> u32
     requires { ⌜ (w ≤ 31) × (g < 2 ^ w) ⌝ }
     ensures { λ s. ⌜ s ≡ remainderFrom w g 0 (run (wordBit (now (words .entry))) 0 (64 * length (now (words .entry)))) ⌝ }
 {
     let mut s: u32 = 0;
-    for i in 0..words.len() {
-        s = next_bits(w, g, s, 64, words[i]);
+    for i in 0..8 * words.len() {
+        let octet = (words[i / 8] >> (56 - 8 * (i % 8))) % 256;
+        s = next_octet(w, g, s, octet as u8);
     }
     s
 }

@@ -44,10 +44,10 @@ step-code w g r b hw hr =
 
 -- ---- the next bit of an octet, and the next octet
 
-pub next-digit : (w g r k v : ℕ) → 0 < k → remainderFrom w g (next w g r (v / 2 ^ (k - 1) % 2)) (digits (k - 1) v) ≡ remainderFrom w g r (digits k v)
+pub next-digit : (w g r k v : ℕ) → 0 < k → remainderFrom w g (next w g r (bitAnd (v / 2 ^ (k - 1)) 1)) (digits (k - 1) v) ≡ remainderFrom w g r (digits k v)
 unfolding remainderFrom digits
 next-digit w g r zero v h = absurd (not-suc-le-zero h)
-next-digit w g r (suc n) v h = rw (sub-one (suc n))
+next-digit w g r (suc n) v h = rw (sub-one (suc n), and-mask (v / 2 ^ n) 1)
 
 pub no-digits : (w g r k v : ℕ) → k ≤ 0 → remainderFrom w g r (digits k v) ≡ r
 unfolding remainderFrom digits

@@ -13,7 +13,7 @@ use Rattle.bits.specs.Order.{bitAt, bitsOf, run, number, digits, wordBit, octet
 use Rattle.bits.proofs.Xor.{xor-swap}
 use Rattle.bits.proofs.Additive.{Additive, agree-test, shift-right, shift-left, shift-up, low-bits, after}
 use Rattle.bits.proofs.Runs.{run-append, digits-number}
-use Rattle.bits.proofs.WordLists.{wordBit-lt, number-word, bitsOf-octetsIn}
+use Rattle.bits.proofs.WordLists.{wordBit-lt, number-word, word-octet, bitsOf-octetsIn}
 use Rattle.bits.proofs.Tests.{every}
 use Rattle.polynomial.specs.Polynomial.{scale, timesX}
 use Rattle.polynomial.specs.Remainder.{next, remainderFrom, remainder}
@@ -132,11 +132,17 @@ module _ (w g : ℕ) where
       ap₂ (remainderFrom w g) p (ap (digits 64) e ∙ digits-number f d k 64)
       ∙ before f (64 * i) 64 k (64 * (i + 1)) at (omega arith)
 
-  -- the words of a list: the next, and all
+  -- the words of a list: the next, the next octet, and all
   module _ (words : List ℕ) where
     pub word-next : (i s : ℕ) → getD words i 0 < 2 ^ 64 → s ≡ remainderFrom w g 0 (run (wordBit words) 0 (64 * i))
         → remainderFrom w g s (digits 64 (getD words i 0)) ≡ remainderFrom w g 0 (run (wordBit words) 0 (64 * (i + 1)))
     word-next i s h p = word-more (wordBit words) (wordBit-lt words) i (64 * i) s (getD words i 0) refl p (sym (number-word words i h))
+
+    pub octet-next : (i s : ℕ) → s ≡ remainderFrom w g 0 (run (wordBit words) 0 (8 * i))
+        → remainderFrom w g s (digits 8 (getD words (i / 8) 0 / 2 ^ (56 - 8 * (i % 8)) % 2 ^ 8)) ≡ remainderFrom w g 0 (run (wordBit words) 0 (8 * (i + 1)))
+    octet-next i s p =
+        ap₂ (remainderFrom w g) p (word-octet words i)
+        ∙ before (wordBit words) (8 * i) 8 (8 * i) (8 * (i + 1)) refl (omega arith)
 
     pub words-all : remainderFrom w g 0 (run (wordBit words) 0 (64 * length words)) ≡ remainder w g (bitsOf (octetsIn words))
     unfolding remainder

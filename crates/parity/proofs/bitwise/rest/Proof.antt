@@ -21,16 +21,13 @@ abbrev μ-loop : tie.MeasureT-loop
 loop-holds : tie.Need-loop-holds Inv-loop μ-loop
 loop-holds c = (search needs, search needs, c .before .pre .2, refl)
 
-shared-slice-read-next-bits : tie.Need-shared-slice-read-next-bits Inv-loop μ-loop
-shared-slice-read-next-bits c = search needs
+shared-slice-read-next-octet : tie.Need-shared-slice-read-next-octet Inv-loop μ-loop
+shared-slice-read-next-octet c = search needs
 
-cast-next-bits : tie.Need-cast-next-bits Inv-loop μ-loop
-cast-next-bits c = record { fits = omega (arith, c .shared-slice-known2 .given (c .before .before .loop .i)) }
-
-next-bits-requires : tie.Need-next-bits-requires Inv-loop μ-loop
-next-bits-requires c κs =
+next-octet-requires : tie.Need-next-octet-requires Inv-loop μ-loop
+next-octet-requires c κs =
     let p = c .before .before .before .before .pre in
-    (p .0, p .1, c .before .before .loop .inv .2, search needs)
+    (p .0, p .1, c .before .before .loop .inv .2)
 
 add-i : tie.Need-add-i Inv-loop μ-loop
 add-i c = search needs
@@ -42,7 +39,7 @@ loop-again : tie.Need-loop-again Inv-loop μ-loop
 loop-again c =
     let l = c .before .before .before .loop in
     let a = c .before .before .before .before .before .args in
-    let e = c .next-bits .ensures in (
+    let e = c .next-octet .ensures in (
       search needs,
       l .inv .1,
       rw e (from-lt (a .w) (a .g) (c .before .before .before .before .before .pre .1) (l .s) _ (l .inv .2)),
@@ -63,9 +60,8 @@ rest-spec =
     Inv-loop
     μ-loop
     loop-holds
-    shared-slice-read-next-bits
-    cast-next-bits
-    next-bits-requires
+    shared-slice-read-next-octet
+    next-octet-requires
     add-i
     loop-less
     loop-again
