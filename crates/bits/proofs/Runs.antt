@@ -18,6 +18,14 @@ run-ext f h k l (suc n) e =
     (ap f (sym (add-zero k)) ∙ e 0 (zero-lt-suc n) ∙ ap h (add-zero l))
     (run-ext f h (suc k) (suc l) n (λ j q. ap f (suc-add k j ∙ sym (add-suc k j)) ∙ e (suc j) (omega arith) ∙ ap h (add-suc l j ∙ sym (suc-add l j))))
 
+pub run-none : (f : ℕ → ℕ) (k : ℕ) → run f k 0 ≡ []
+unfolding run
+run-none f k = refl
+
+pub run-one : (f : ℕ → ℕ) (k : ℕ) → run f k 1 ≡ f k ∷ []
+unfolding run
+run-one f k = refl
+
 pub length-run : (f : ℕ → ℕ) (k n : ℕ) → length (run f k n) ≡ n
 unfolding run
 length-run f k zero = refl

@@ -1,8 +1,8 @@
 -- When the last 32 headers match, by their bits: bit 0 is the latest. Assumes nothing.
 use mathlib.Core.Path.{_≡_, sym, ap, _∙_}
-use mathlib.Core.Bool.{Bool, true, false, _&&_}
+use mathlib.Core.Bool.{true, false, _&&_}
 use Prim.Native.Nat.{ℕ, _/_, _%_, _^_, _≤_, _<_}
-use borrow.Author.Tests.{le-leb, lt-leb, eq-eqb, eqb-true}
+use borrow.Author.Tests.{le-leb, lt-leb, eqb-true}
 use lib.Dec.{leb, eqb}
 use Rattle.bits.proofs.Choice.{parts-true}
 use Rattle.bits.proofs.Numbers.{digit-at}

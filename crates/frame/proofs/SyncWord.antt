@@ -133,6 +133,14 @@ there (y ∷ l) x d h = by (eqb (key x) (key y)) refl h (there l x d)
 
 -- ---- what is written
 
+pub held-mark : (p c e : ℕ) → held p c e mark ≡ e % 2
+unfolding held
+held-mark p c e = refl
+
+pub held-fixed : (p c e b : ℕ) → held p c e (fixed b) ≡ b % 2
+unfolding held
+held-fixed p c e b = refl
+
 pub held-lt : (p c e : ℕ) (x : Field) → held p c e x < 2
 unfolding held
 held-lt p c e (parity k) = mod-lt (p / 2 ^ k) (zero-lt-suc 1)

@@ -6,9 +6,8 @@ use Prim.Native.Nat.{ℕ, zero, suc, _+_, _-_, _*_, _%_, _≤_, _<_}
 use native.Mathlib.Nat.{add-suc, add-zero}
 use native.Mathlib.Numerals.{add-one, one-add}
 use native.Mathlib.Omega.{arith}
-use borrow.Author.Tests.{eq-eqb, ne-eqb}
+use borrow.Author.Tests.{eq-eqb}
 use lib.Dec.{eqb}
-use Rattle.bits.specs.Order.{run}
 use Rattle.frame.specs.Headers.{carries}
 use Rattle.frame.proofs.Headers.{sound-le}
 use Rattle.header_lock.specs.Table.{headerHunting, headerLocked, valid, headerStep}
@@ -20,10 +19,10 @@ use Rattle.extended_lock.proofs.Rows.{hunts-on, with-hunting, step-by}
 use Rattle.extended_lock.proofs.Matches.{too-few}
 use Rattle.lock.specs.Table.{lockStep}
 use Rattle.lock.specs.Accepted.{widthOf, stepped}
-use Rattle.lock.specs.Run.{after, ran}
+use Rattle.lock.specs.Run.{ran}
 use Rattle.lock.specs.Stream.{Crc12Sync, Crc12Headers, Held}
 use Rattle.lock.specs.declared.Lock.{Lock}
-use Rattle.lock.proofs.Runs.{ran-next, never-refused}
+use Rattle.lock.proofs.Runs.{ran-none, ran-next, never-refused}
 use Rattle.lock.proofs.Follow.{follows}
 use Rattle.lock.proofs.Window.{Seen, seen-none, seen-more, seen-step}
 use Rattle.lock.proofs.Ends.{matches-at-ends}
@@ -74,8 +73,8 @@ module _ (mode E p : ℕ) (headers : ℕ → ℕ) (known : mode ≤ 1) (some : 1
   next n = ran-next mode E headers known some few values n
 
   counting : (n : ℕ) → n ≤ 63 → r n ≡ withFresh (headerHunting 0 n)
-  unfolding r ran after run
-  counting zero h = refl
+  unfolding r
+  counting zero h = ran-none mode E headers
   counting (suc n) h =
       next n ∙ ap (λ (x : Lock). lockStep (widthOf mode) (32 * E) x (headers n)) (counting n (omega arith)) ∙ counts (widthOf mode) (32 * E) (headers n) (good n) n (omega arith)
       ∙ ap (λ (k : ℕ). withFresh (headerHunting 0 k)) (add-one n)

@@ -1,6 +1,6 @@
 -- The extended lock where exactly the blocks match that end an extended multiblock: it is locked after at most four of them, and stays so.
 -- Assumes nothing.
-use mathlib.Core.Path.{_≡_, refl, sym, ap, ap₂, _∙_, subst₃}
+use mathlib.Core.Path.{_≡_, sym, ap, ap₂, _∙_, subst₃}
 use mathlib.Core.Bool.{true, false}
 use mathlib.Core.Logic.{_⊎_, inl, inr, ⊎-elim}
 use Prim.Native.Nat.{ℕ, zero, suc, _+_, _-_, _*_, _%_, _≤_, _<_}

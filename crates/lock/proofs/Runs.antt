@@ -8,7 +8,7 @@ use native.Mathlib.Numerals.{add-one}
 use native.Mathlib.Nat.{zero-add}
 use native.Mathlib.Omega.{arith}
 use Rattle.bits.specs.Order.{run}
-use Rattle.bits.proofs.Runs.{run-append, run-ext}
+use Rattle.bits.proofs.Runs.{run-none, run-one, run-append, run-ext}
 use Rattle.lock.specs.Table.{fresh, lockStep}
 use Rattle.lock.specs.Accepted.{accepted, widthOf, stepped}
 use Rattle.lock.specs.Run.{after, ran}
@@ -35,15 +35,20 @@ module _ (mode E : ℕ) (headers : ℕ → ℕ) where
       ap (after mode E fresh) (run-append headers 0 n m) ∙ after-append mode E fresh (run headers 0 n) (run headers (0 + n) m)
       ∙ ap (λ (k : ℕ). after mode E (ran mode E headers n) (run headers k m)) (zero-add n)
 
+  pub ran-none : ran mode E headers 0 ≡ fresh
+  unfolding ran after
+  ran-none = ap (after mode E fresh) (run-none headers 0)
+
   pub ran-suc : (n : ℕ) → ran mode E headers (suc n) ≡ stepped mode E (ran mode E headers n) (headers n) .lock
-  unfolding after run
-  ran-suc n = ap (ran mode E headers) (sym (add-one n)) ∙ ran-on n 1
+  unfolding after
+  ran-suc n = ap (ran mode E headers) (sym (add-one n)) ∙ ran-on n 1 ∙ ap (after mode E (ran mode E headers n)) (run-one headers n)
 
 module _ (mode E : ℕ) (headers : ℕ → ℕ) (known : mode ≤ 1) (some : 1 ≤ E) (few : E ≤ 256) (values : (n : ℕ) → headers n ≤ 3) where
   -- a run from fresh stays with accepted states
   pub ran-accepted : (n : ℕ) → accepted (widthOf mode) (32 * E) (ran mode E headers n) ≡ true
-  unfolding ran after run
-  ran-accepted zero = accepted-fresh (widthOf mode) (32 * E) (omega (arith, width-is mode))
+  ran-accepted zero =
+      subst (λ (x : Lock). accepted (widthOf mode) (32 * E) x ≡ true) (sym (ran-none mode E headers))
+      (accepted-fresh (widthOf mode) (32 * E) (omega (arith, width-is mode)))
   ran-accepted (suc n) =
       let t : Taken mode E (ran mode E headers n) (headers n) = record { known = known; some = some; few = few; state = ran-accepted n; value = values n } in
       subst (λ (x : Lock). accepted (widthOf mode) (32 * E) x ≡ true) (sym (ran-suc mode E headers n ∙ ap (λ (x : Stepped). x .lock) (stepped-taken t)))
