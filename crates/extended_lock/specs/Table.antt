@@ -29,15 +29,18 @@ matches x = leb 32 (x .seen) && eqb (digit 32 (x .headers) 22) 1 && eqb (x .head
 
 -- ---- extended lock
 
--- the same headers in each phase, with what the phase counts
+-- the same headers, with a phase and what it counts
+abbrev pub counted : ExtendedLock → Phase → ℕ → ℕ → ℕ → ExtendedLock
+counted x phase good bad next = record { phase = phase; seen = x .seen; headers = x .headers; good = good; bad = bad; next = next }
+
 abbrev pub hunting : ExtendedLock → ExtendedLock
-hunting x = record { phase = Hunting; seen = x .seen; headers = x .headers; good = 0; bad = 0; next = 0 }
+hunting x = counted x Hunting 0 0 0
 
 abbrev pub following : ExtendedLock → ℕ → ℕ → ExtendedLock
-following x good next = record { phase = Following; seen = x .seen; headers = x .headers; good = good; bad = 0; next = next }
+following x good next = counted x Following good 0 next
 
 abbrev pub locked : ExtendedLock → ℕ → ℕ → ExtendedLock
-locked x bad next = record { phase = Locked; seen = x .seen; headers = x .headers; good = 0; bad = bad; next = next }
+locked x bad next = counted x Locked 0 bad next
 
 -- by: the phase, is this a block to look at, does it match
 abbrev pub extendedRow : Phase → Bool → Bool → ℕ → ExtendedLock → ExtendedLock

@@ -3,7 +3,7 @@ ghost use mathlib.Core.Path.{_≡_};
 ghost use mathlib.Core.Bool.{true};
 ghost use lib.Dec.{eqb};
 ghost use Rattle.bits.specs.Choice.{pick};
-ghost use Rattle.extended_lock.specs.Table.{hunting, following, locked, extendedRow, moved, extendedStep};
+ghost use Rattle.extended_lock.specs.Table.{counted, extendedRow, moved, extendedStep};
 ghost use Rattle.extended_lock.specs.Range.{phaseInRange, extendedInRange};
 ghost use Rattle.extended_lock.specs.declared.Phase.the-variants.{Hunting, Following, Locked};
 use crate::ExtendedLock;
@@ -12,40 +12,14 @@ use crate::headers::is_match;
 use crate::headers::with_header;
 use crate::range::in_range;
 
-fn hunting(lock: ExtendedLock) -> ExtendedLock
-    ensures { λ r. ⌜ r ≡ hunting lock ⌝ }
+fn counted(lock: ExtendedLock, phase: Phase, good: u32, bad: u32, next: u32) -> ExtendedLock
+    ensures { λ r. ⌜ r ≡ counted lock phase good bad next ⌝ }
 {
     ExtendedLock {
-        phase: Phase::Hunting,
-        seen: lock.seen,
-        headers: lock.headers,
-        good: 0,
-        bad: 0,
-        next: 0,
-    }
-}
-
-fn following(lock: ExtendedLock, good: u32, next: u32) -> ExtendedLock
-    ensures { λ r. ⌜ r ≡ following lock good next ⌝ }
-{
-    ExtendedLock {
-        phase: Phase::Following,
+        phase,
         seen: lock.seen,
         headers: lock.headers,
         good,
-        bad: 0,
-        next,
-    }
-}
-
-fn locked(lock: ExtendedLock, bad: u32, next: u32) -> ExtendedLock
-    ensures { λ r. ⌜ r ≡ locked lock bad next ⌝ }
-{
-    ExtendedLock {
-        phase: Phase::Locked,
-        seen: lock.seen,
-        headers: lock.headers,
-        good: 0,
         bad,
         next,
     }
@@ -55,9 +29,9 @@ fn hunting_next(period: u32, lock: ExtendedLock, matched: bool) -> ExtendedLock
     ensures { λ r. ⌜ r ≡ extendedRow Hunting (eqb (lock .next) 1) matched period lock ⌝ }
 {
     if matched {
-        return following(lock, 1, period);
+        return counted(lock, Phase::Following, 1, 0, period);
     }
-    hunting(lock)
+    counted(lock, Phase::Hunting, 0, 0, 0)
 }
 
 fn following_next(period: u32, lock: ExtendedLock, look: bool, matched: bool) -> ExtendedLock
@@ -65,16 +39,16 @@ fn following_next(period: u32, lock: ExtendedLock, look: bool, matched: bool) ->
     ensures { λ r. ⌜ r ≡ extendedRow Following look matched period lock ⌝ }
 {
     if !look {
-        return following(lock, lock.good, lock.next - 1);
+        return counted(lock, Phase::Following, lock.good, 0, lock.next - 1);
     }
     if !matched {
-        return hunting(lock);
+        return counted(lock, Phase::Hunting, 0, 0, 0);
     }
     let good = lock.good + 1;
     if good == 4 {
-        return locked(lock, 0, period);
+        return counted(lock, Phase::Locked, 0, 0, period);
     }
-    following(lock, good, period)
+    counted(lock, Phase::Following, good, 0, period)
 }
 
 fn locked_next(period: u32, lock: ExtendedLock, look: bool, matched: bool) -> ExtendedLock
@@ -82,16 +56,16 @@ fn locked_next(period: u32, lock: ExtendedLock, look: bool, matched: bool) -> Ex
     ensures { λ r. ⌜ r ≡ extendedRow Locked look matched period lock ⌝ }
 {
     if !look {
-        return locked(lock, lock.bad, lock.next - 1);
+        return counted(lock, Phase::Locked, 0, lock.bad, lock.next - 1);
     }
     if matched {
-        return locked(lock, 0, period);
+        return counted(lock, Phase::Locked, 0, 0, period);
     }
     let bad = lock.bad + 1;
     if bad == 8 {
-        return hunting(lock);
+        return counted(lock, Phase::Hunting, 0, 0, 0);
     }
-    locked(lock, bad, period)
+    counted(lock, Phase::Locked, 0, bad, period)
 }
 
 fn moved(period: u32, lock: ExtendedLock, matched: bool) -> ExtendedLock
