@@ -22,6 +22,10 @@ pub run-none : (f : ℕ → ℕ) (k : ℕ) → run f k 0 ≡ []
 unfolding run
 run-none f k = refl
 
+pub run-first : (f : ℕ → ℕ) (k n : ℕ) → run f k (suc n) ≡ f k ∷ run f (suc k) n
+unfolding run
+run-first f k n = refl
+
 pub run-one : (f : ℕ → ℕ) (k : ℕ) → run f k 1 ≡ f k ∷ []
 unfolding run
 run-one f k = refl
@@ -43,6 +47,14 @@ run-append f k zero n = ap₂ (run f) (sym (add-zero k)) (zero-add n)
 run-append f k (suc a) n = ap (run f k) (suc-add a n) ∙ ap (λ (y : List ℕ). f k ∷ y) (run-append f (suc k) a n ∙ ap (λ (x : ℕ). run f (suc k) a ++ run f x n) (suc-add k a ∙ sym (add-suc k a)))
 
 -- ---- a number's digits
+
+pub digits-none : (v : ℕ) → digits 0 v ≡ []
+unfolding digits
+digits-none v = refl
+
+pub digits-first : (n v : ℕ) → digits (suc n) v ≡ v / 2 ^ n % 2 ∷ digits n v
+unfolding digits
+digits-first n v = refl
 
 -- the digits of the number that a run writes are the run
 module _ (f : ℕ → ℕ) (d : (k : ℕ) → f k < 2) where

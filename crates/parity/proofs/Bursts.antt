@@ -4,18 +4,18 @@ use mathlib.Core.Path.{_≡_, refl, sym, ap, ap₂, _∙_, subst}
 use mathlib.Core.Logic.{_≢_}
 use mathlib.Core.Bool.{Bool, true, false, not}
 use Prim.Native.Nat.{ℕ, zero, suc, _+_, _-_, _*_, _/_, _%_, _^_, _≤_, _<_}
-use native.Mathlib.Nat.{zero-mul, one-mul, zero-add, add-zero, add-suc, suc-add, add-mul, mul-assoc, zero-lt-suc, pow-suc, mul-comm, add-sub-cancel-left, le-add-right, le-add-left, lt-of-lt-of-le, div-one, div-add-mod', mod-mod}
+use native.Mathlib.Nat.{zero-mul, one-mul, zero-add, add-zero, add-suc, suc-add, add-mul, mul-assoc, zero-lt-suc, pow-suc, mul-comm, add-sub-cancel-left, le-add-right, le-add-left, lt-of-lt-of-le, div-one, div-add-mod'}
 use native.Mathlib.Numerals.{one-add}
 use native.Mathlib.Decide.{decLe}
 use native.Mathlib.Omega.{arith}
 use lib.Arith.{lt-one, digits-lt, digits-div, digits-mod, lt→nleb}
 use lib.Dec.{T, leb, le→leb, lit<, lit≤}
 use lib.Pow.{pow-pos, pow-mono, shr-shr}
-use lib.Bits.{bitXor, xor-shifted}
+use lib.Bits.{bitXor}
 use Rattle.bits.specs.Choice.{pick}
 use Rattle.bits.proofs.Xor.{odd-lt}
 use Rattle.polynomial.specs.Polynomial.{scale, timesX, timesPower}
-use Rattle.polynomial.proofs.Polynomial.{half-lt, scale-zero, timesX-low, timesPower-xor, timesPower-zero, timesPower-scale, timesPower-add, timesPower-lt, timesPower-injective, power-low}
+use Rattle.polynomial.proofs.Polynomial.{half-lt, scale-zero, scale-mod, scale-above, timesX-low, timesPower-none, timesPower-suc, timesPower-xor, timesPower-zero, timesPower-scale, timesPower-add, timesPower-lt, timesPower-injective, power-low}
 use Rattle.polynomial.proofs.Fire.{trapped}
 use Rattle.parity.specs.Codeword.{Code, crc12, fec, weight, weighed, remainderOf}
 use Rattle.parity.specs.Bursts.{IsBurst, flips}
@@ -84,11 +84,11 @@ module _ (C : Code) where
       ∙ ap (λ (x : ℕ). weighed C f x n) (suc-add p a ∙ sym (add-suc p a))
 
   weighed-pattern : (f : ℕ → ℕ) (n p q : ℕ) → ((j : ℕ) → f (p + j) ≡ q / 2 ^ j % 2) → weighed C f p n ≡ patternSum C n p q
-  unfolding weighed patternSum scale
+  unfolding weighed patternSum
   weighed-pattern f zero p q e = refl
   weighed-pattern f (suc n) p q e =
       ap₂ bitXor
-      (ap (λ (x : ℕ). x % 2 * weight C p) (ap f (sym (add-zero p)) ∙ e 0 ∙ ap (λ (x : ℕ). x % 2) (div-one q)) ∙ ap (λ (x : ℕ). x * weight C p) (mod-mod q 2))
+      (ap (λ (x : ℕ). scale x (weight C p)) (ap f (sym (add-zero p)) ∙ e 0 ∙ ap (λ (x : ℕ). x % 2) (div-one q)) ∙ scale-mod q (weight C p))
       (weighed-pattern f n (suc p) (q / 2) (λ j.
       ap f (suc-add p j ∙ sym (add-suc p j)) ∙ e (suc j)
       ∙ ap (λ (x : ℕ). q / 2 ^ x % 2) (sym (one-add j)) ∙ ap (λ (x : ℕ). x % 2) (sym (shr-shr q 1 j))))
@@ -162,10 +162,10 @@ mirror-next (suc k) q h =
     ∙ sym (add-mul (q % 2 * 2 ^ k) (mirror k (q / 2)) 2)
 
 mirror-more : (w g d k q : ℕ) → d + k ≤ w → q < 2 ^ k → timesPower w g d (mirror k q) ≡ mirror (d + k) q
-unfolding timesPower
-mirror-more w g zero k q l h = ap (λ (x : ℕ). mirror x q) (sym (zero-add k))
+mirror-more w g zero k q l h = timesPower-none w g (mirror k q) ∙ ap (λ (x : ℕ). mirror x q) (sym (zero-add k))
 mirror-more w g (suc d) k q l h =
-    ap (timesX w g) (mirror-more w g d k q (omega arith) h)
+    timesPower-suc w g d (mirror k q)
+    ∙ ap (timesX w g) (mirror-more w g d k q (omega arith) h)
     ∙ timesX-low w g (mirror (d + k) q) (lt-of-lt-of-le (subst (λ (x : ℕ). x < 2 ^ suc (d + k)) next (mirror-lt (suc (d + k)) q)) (pow-mono (omega arith)))
     ∙ sym next
     ∙ ap (λ (x : ℕ). mirror x q) (sym (suc-add d k))
@@ -178,7 +178,7 @@ mirror-more w g (suc d) k q l h =
 module _ (C : Code) where
   patternSum-mirror : (k p q : ℕ) → k ≤ C .width → p + k ≤ C .positions
       → patternSum C k p q ≡ timesPower (C .width) (C .lower) (C .positions - k - p) (mirror k q)
-  unfolding patternSum mirror weight scale
+  unfolding patternSum mirror weight
   patternSum-mirror zero p q hk hp = sym (timesPower-zero (C .width) (C .lower) (C .positions - 0 - p))
   patternSum-mirror (suc k) p q hk hp =
       ap₂ bitXor
@@ -186,7 +186,7 @@ module _ (C : Code) where
       (patternSum-mirror k (suc p) (q / 2) (omega arith) (omega arith)
       ∙ ap (λ (n : ℕ). timesPower (C .width) (C .lower) n (mirror k (q / 2))) {x = C .positions - k - suc p} {y = C .positions - suc k - p} (omega arith))
       ∙ sym (timesPower-xor (C .width) (C .lower) (C .positions - suc k - p) (scale q (2 ^ k)) (mirror k (q / 2)))
-      ∙ ap (timesPower (C .width) (C .lower) (C .positions - suc k - p)) (xor-shifted (q % 2) k (mirror k (q / 2)) (mirror-lt k (q / 2)))
+      ∙ ap (timesPower (C .width) (C .lower) (C .positions - suc k - p)) (scale-above q k (mirror k (q / 2)) (mirror-lt k (q / 2)))
     where
       first : timesPower (C .width) (C .lower) (C .positions - 1 - p) 1 ≡ timesPower (C .width) (C .lower) (C .positions - suc k - p) (2 ^ k)
       first =
@@ -206,7 +206,7 @@ module _ (C : Code) where
         remainder-pattern C (C .positions - p) p q (record { odd = burst .odd; short = burst .inside; inside = burst .inside })
         ∙ patternSum-mirror (C .positions - p) p q (omega arith) (omega arith)
         ∙ ap (λ (n : ℕ). timesPower (C .width) (C .lower) n (mirror (C .positions - p) q)) {x = C .positions - (C .positions - p) - p} {y = 0} (omega arith)
-        ∙ unfold timesPower in refl
+        ∙ timesPower-none (C .width) (C .lower) (mirror (C .positions - p) q)
 
     -- and so the highest bit is the weight of position p
     pub late-high : C .positions ≤ p + b → 2 ^ (C .positions - 1 - p) ≤ remainderOf C (flips p q)

@@ -5,15 +5,15 @@ use Prim.Native.Nat.{ℕ, zero, suc, _+_, _-_, _*_, _/_, _%_, _^_, _≤_, _<_}
 use native.Mathlib.Nat.{add-zero, zero-add, add-suc, suc-add, le-refl, mod-eq-of-lt, zero-lt-suc}
 use native.Mathlib.Omega.{arith}
 use lib.Pow.{pow-pos, pow-lt}
-use lib.Bits.{bitXor, xor-lt, xor-comm, xor-zero-r, xor-shifted}
+use lib.Bits.{bitXor, xor-lt, xor-zero-r}
 use borrow.Author.Tests.{lt-ltb, le-ltb}
 use Rattle.bits.specs.Order.{run, number, bitsOf}
 use Rattle.bits.proofs.Xor.{odd-lt, xor-assoc, xor-swap}
-use Rattle.bits.proofs.Numbers.{number-first, number-lt, number-ext, number-whole}
-use Rattle.polynomial.specs.Polynomial.{scale, timesX, timesPower, power}
+use Rattle.bits.proofs.Numbers.{number-none, number-first, number-lt, number-ext, number-whole}
+use Rattle.polynomial.specs.Polynomial.{scale, timesPower, power}
 use Rattle.polynomial.specs.Remainder.{next, remainderFrom, remainder}
-use Rattle.polynomial.proofs.Remainder.{remainder-lt}
-use Rattle.polynomial.proofs.Polynomial.{scale-xor, scale-lt, timesPower-xor, timesPower-zero, timesPower-scale, timesPower-in, timesPower-add, timesPower-lt, power-low, power-width}
+use Rattle.polynomial.proofs.Remainder.{from-zero, from-none, from-first, next-power, remainder-lt}
+use Rattle.polynomial.proofs.Polynomial.{scale-xor, scale-above, scale-lt, timesPower-none, timesPower-zero, timesPower-lt, power-low}
 use Rattle.parity.specs.Codeword.{Code, parityOf, weight, codeword, weighed, remainderOf}
 
 module _ (C : Code) where
@@ -60,39 +60,35 @@ module _ (C : Code) where
 
     -- one bit with n positions of data after it
     bit-weighed : (p n r b : ℕ) → p + suc n + w ≡ C .positions → timesPower w g n (next w g r b) ≡ bitXor (timesPower w g (suc n) r) (scale b (weight C p))
-    unfolding next weight
+    unfolding weight
     bit-weighed p n r b e =
         let place : w + n ≡ C .positions - 1 - p = omega arith in
-        timesPower-xor w g n (scale b g) (timesX w g r)
-        ∙ ap₂ bitXor
-        (timesPower-scale w g n b g
-        ∙ ap (scale b) (ap (timesPower w g n) (sym (power-width w g some)) ∙ sym (timesPower-add w g w n 1) ∙ ap (power w g) place))
-        (timesPower-in w g n r)
-        ∙ xor-comm (scale b (power w g (C .positions - 1 - p))) (timesPower w g (suc n) r)
+        next-power w g some n r b ∙ ap (λ (k : ℕ). bitXor (timesPower w g (suc n) r) (scale b (power w g k))) place
 
     -- data: n positions with the parity's after them
     from-weighed : (f : ℕ → ℕ) (p n r : ℕ) → p + n + w ≡ C .positions → remainderFrom w g r (run f p n) ≡ bitXor (timesPower w g n r) (weighed C f p n)
-    unfolding remainderFrom run weighed
-    from-weighed f p zero r e = unfold timesPower in sym (xor-zero-r r)
+    unfolding weighed
+    from-weighed f p zero r e = from-none w g r f p ∙ sym (timesPower-none w g r) ∙ sym (xor-zero-r (timesPower w g 0 r))
     from-weighed f p (suc n) r e =
-        from-weighed f (suc p) n (next w g r (f p)) (omega arith)
+        from-first w g r f p n
+        ∙ from-weighed f (suc p) n (next w g r (f p)) (omega arith)
         ∙ ap (λ (x : ℕ). bitXor x (weighed C f (suc p) n)) (bit-weighed p n r (f p) e)
         ∙ xor-assoc (timesPower w g (suc n) r) (scale (f p) (weight C p)) (weighed C f (suc p) n)
 
     pub remainder-weighed : (f : ℕ → ℕ) (n : ℕ) → n + w ≡ C .positions → remainder w g (run f 0 n) ≡ weighed C f 0 n
-    unfolding remainder
     remainder-weighed f n e =
-        from-weighed f 0 n 0 (ap (λ (x : ℕ). x + w) (zero-add n) ∙ e) ∙ ap (λ (x : ℕ). bitXor x (weighed C f 0 n)) (timesPower-zero w g n)
+        sym (from-zero w g (run f 0 n))
+        ∙ from-weighed f 0 n 0 (ap (λ (x : ℕ). x + w) (zero-add n) ∙ e) ∙ ap (λ (x : ℕ). bitXor x (weighed C f 0 n)) (timesPower-zero w g n)
 
     -- parity: at most w positions, the last ones, weigh as the digits of a number
     pub weighed-number : (f : ℕ → ℕ) → ((k : ℕ) → f k < 2) → (p n : ℕ) → p + n ≡ C .positions → n ≤ w → weighed C f p n ≡ number f p n
-    unfolding weighed weight scale number
-    weighed-number f d p zero e h = refl
+    unfolding weighed weight
+    weighed-number f d p zero e h = number-none f p
     weighed-number f d p (suc n) e h =
         let place : C .positions - 1 - p ≡ n = omega arith in
-        ap₂ (λ (x y : ℕ). bitXor (x * y) (weighed C f (suc p) n)) (mod-eq-of-lt (d p)) (ap (power w g) place ∙ power-low w g n h)
-        ∙ ap (bitXor (f p * 2 ^ n)) (weighed-number f d (suc p) n (omega arith) (omega arith))
-        ∙ xor-shifted (f p) n (number f (suc p) n) (number-lt f d (suc p) n)
+        ap₂ (λ (x y : ℕ). bitXor (scale (f p) x) y) (ap (power w g) place ∙ power-low w g n h) (weighed-number f d (suc p) n (omega arith) (omega arith))
+        ∙ scale-above (f p) n (number f (suc p) n) (number-lt f d (suc p) n)
+        ∙ ap (λ (x : ℕ). x * 2 ^ n + number f (suc p) n) (mod-eq-of-lt (d p))
         ∙ sym (number-first f p n)
 
     module _ (f : ℕ → ℕ) (parity : ℕ) (room : w ≤ C .positions) where

@@ -4,30 +4,22 @@
 use mathlib.Core.Path.{_≡_, refl, sym, ap, ap₂, _∙_, subst}
 use mathlib.Core.List.{List}
 use Prim.Native.Nat.{ℕ, zero, suc, _+_, _-_, _*_, _/_, _%_, _^_, _≤_, _<_}
-use native.Mathlib.Nat.{one-mul, zero-mul, zero-add, mod-one, mod-eq-of-lt, mod-lt, lt-of-lt-of-le, pow-suc}
+use native.Mathlib.Nat.{one-mul, zero-add, mod-one, mod-lt, lt-of-lt-of-le, pow-suc}
 use native.Mathlib.Numerals.{add-one, one-add}
 use native.Mathlib.Omega.{arith}
 use lib.ListN.{getD}
 use lib.Arith.{lt-one, digits-div}
 use lib.Dec.{lit<, lit≤}
 use lib.Pow.{pow-pos, mod-pow-add}
-use lib.Bits.{bitXor, bitAnd, and-mask, xor-lt, xor-comm, xor-shifted, xor-zero-r}
+use lib.Bits.{bitXor, bitAnd, and-mask, xor-lt, xor-comm, xor-zero-r}
 use Rattle.bits.specs.Order.{run}
 use Rattle.bits.proofs.Runs.{getD-run}
 use Rattle.bits.proofs.Xor.{bit-cases, odd-lt, xor-assoc}
 use Rattle.polynomial.specs.Polynomial.{scale, timesX, timesPower}
-use Rattle.polynomial.proofs.Polynomial.{half-lt, top-lt, scale-lt, timesX-lt, timesPower-xor, timesPower-zero, timesPower-scale, timesPower-in, timesPower-injective, power-low}
+use Rattle.polynomial.proofs.Polynomial.{half-lt, scale-zero, scale-one, scale-mod, scale-and, scale-above, scale-lt, timesX-lt, timesPower-none, timesPower-suc, timesPower-xor, timesPower-zero, timesPower-scale, timesPower-in, timesPower-injective, power-low}
 use Rattle.parity.specs.Codeword.{fec, weight}
 use Rattle.parity.specs.Answer.{Explains}
 use Rattle.parity.proofs.Bursts.{fec-proper, starts, patternSum, mirror, early, late-high, late-lt, nine-bits}
-
--- ---- times x, as the code has it
-
-pub times-x : (r up : ℕ) → r < 2 ^ 26 → up ≡ r * 2 → bitXor (up / 2 ^ 26 * 0x0220211) (bitAnd up (2 ^ 26 - 1)) ≡ timesX 26 0x0220211 r
-unfolding timesX scale
-times-x r up h e =
-    ap₂ (λ (x y : ℕ). bitXor (x * 0x0220211) y)
-    (ap (λ (x : ℕ). x / 2 ^ 26) e ∙ sym (mod-eq-of-lt (top-lt 26 r h))) (and-mask up 26 ∙ ap (λ (x : ℕ). x % 2 ^ 26) e)
 
 -- ---- x^-2065
 
@@ -37,8 +29,8 @@ ahead zero r = r
 ahead (suc n) r = ahead n (timesX 26 0x0220211 r)
 
 ahead-is : (n r : ℕ) → ahead n r ≡ timesPower 26 0x0220211 n r
-unfolding ahead timesPower
-ahead-is zero r = refl
+unfolding ahead
+ahead-is zero r = sym (timesPower-none 26 0x0220211 r)
 ahead-is (suc n) r = ahead-is n (timesX 26 0x0220211 r) ∙ timesPower-in 26 0x0220211 n r
 
 ahead-back : ahead 2065 64619501 ≡ 1
@@ -62,36 +54,33 @@ gather-none s =
     record {
       trap-lt = lit< tt;
       power-lt = lit< tt;
-      next = back ∙ sym (unfold timesPower in refl);
+      next = back ∙ sym (timesPower-none 26 0x0220211 1);
       sum = timesPower-zero 26 0x0220211 2065 ∙ sym (mod-one s);
     }
 
--- bit k of s times the power, as the code has it
-pub gather-bit : (s k power : ℕ) → bitAnd (s / 2 ^ k) 1 * power ≡ scale (s / 2 ^ k) power
-unfolding scale
-gather-bit s k power = ap (λ (x : ℕ). x * power) (and-mask (s / 2 ^ k) 1)
-
 module _ (s k trap power : ℕ) (l : k < 26) (g : Gathered s k trap power) where
   sum-more : timesPower 26 0x0220211 2065 (bitXor trap (scale (s / 2 ^ k) power)) ≡ s % 2 ^ (1 + k)
-  unfolding scale
   sum-more =
       timesPower-xor 26 0x0220211 2065 trap (scale (s / 2 ^ k) power)
       ∙ ap₂ bitXor (g .sum)
       (timesPower-scale 26 0x0220211 2065 (s / 2 ^ k) power ∙ ap (scale (s / 2 ^ k)) (g .next ∙ power-low 26 0x0220211 k l))
-      ∙ xor-comm (s % 2 ^ k) (s / 2 ^ k % 2 * 2 ^ k)
-      ∙ xor-shifted (s / 2 ^ k % 2) k (s % 2 ^ k) (mod-lt s (pow-pos k))
+      ∙ xor-comm (s % 2 ^ k) (scale (s / 2 ^ k) (2 ^ k))
+      ∙ scale-above (s / 2 ^ k) k (s % 2 ^ k) (mod-lt s (pow-pos k))
       ∙ sym (mod-pow-add s 1 k)
 
   pub gather-more : Gathered s (k + 1) (bitXor trap (bitAnd (s / 2 ^ k) 1 * power)) (timesX 26 0x0220211 power)
   gather-more =
       record {
-        trap-lt = rw (gather-bit s k power) (xor-lt 26 trap (scale (s / 2 ^ k) power) (g .trap-lt) (scale-lt 26 (s / 2 ^ k) power (g .power-lt)));
+        trap-lt = rw (scale-and (s / 2 ^ k) power) (xor-lt 26 trap (scale (s / 2 ^ k) power) (g .trap-lt) (scale-lt 26 (s / 2 ^ k) power (g .power-lt)));
         power-lt = timesX-lt 26 0x0220211 power (fec-proper .fits);
         next =
             timesPower-in 26 0x0220211 2065 power
-            ∙ unfold timesPower in ap (timesX 26 0x0220211) (g .next) ∙ ap (λ (n : ℕ). timesPower 26 0x0220211 n 1) (sym (add-one k));
+            ∙ timesPower-suc 26 0x0220211 2065 power
+            ∙ ap (timesX 26 0x0220211) (g .next)
+            ∙ sym (timesPower-suc 26 0x0220211 k 1)
+            ∙ ap (λ (n : ℕ). timesPower 26 0x0220211 n 1) (sym (add-one k));
         sum =
-            ap (λ (x : ℕ). timesPower 26 0x0220211 2065 (bitXor trap x)) (gather-bit s k power)
+            ap (λ (x : ℕ). timesPower 26 0x0220211 2065 (bitXor trap x)) (scale-and (s / 2 ^ k) power)
             ∙ sum-more ∙ ap (λ (n : ℕ). s % 2 ^ n) (one-add k ∙ sym (add-one k));
       }
 
@@ -157,15 +146,16 @@ module _ (k p q sum sum′ total : ℕ) (l : k < 9) (inv : bitXor sum (patternSu
       ∙ ap (λ (n : ℕ). bitXor sum (patternSum fec n p q)) {x = suc (9 - (k + 1))} {y = 9 - k} (omega arith)
       ∙ inv
 
+  scaled : {b : ℕ} → q % 2 ≡ b → scale q (weight fec p) ≡ scale b (weight fec p)
+  scaled e = sym (scale-mod q (weight fec p)) ∙ ap (λ (x : ℕ). scale x (weight fec p)) e
+
   pub bit-set : bitAnd q 1 ≡ 1 → sum′ ≡ bitXor sum (weight fec p) → bitXor sum′ (patternSum fec (9 - (k + 1)) (p + 1) (q / 2)) ≡ total
-  unfolding scale
-  bit-set b e = bit-more (e ∙ ap (bitXor sum) (sym (ap (λ (x : ℕ). x * weight fec p) (sym (and-mask q 1) ∙ b) ∙ one-mul (weight fec p))))
+  bit-set b e = bit-more (e ∙ ap (bitXor sum) (sym (scaled (sym (and-mask q 1) ∙ b) ∙ scale-one (weight fec p))))
 
   pub bit-not : (bitAnd q 1 ≡ 1 → ⊥) → sum′ ≡ sum → bitXor sum′ (patternSum fec (9 - (k + 1)) (p + 1) (q / 2)) ≡ total
-  unfolding scale
   bit-not b e =
       let none : q % 2 ≡ 0 = bit-cases (λ (x : ℕ). q % 2 ≡ x → x ≡ 0) (λ z. refl) (λ z. absurd (b (and-mask q 1 ∙ z))) (q % 2) (odd-lt q) refl in
-      bit-more (e ∙ sym (xor-zero-r sum) ∙ ap (bitXor sum) (sym (ap (λ (x : ℕ). x * weight fec p) none ∙ zero-mul (weight fec p))))
+      bit-more (e ∙ sym (xor-zero-r sum) ∙ ap (bitXor sum) (sym (scaled none ∙ scale-zero (weight fec p))))
 
 pub bits-all : (k p q sum total : ℕ) → 9 ≤ k → bitXor sum (patternSum fec (9 - k) p q) ≡ total → sum ≡ total
 unfolding patternSum

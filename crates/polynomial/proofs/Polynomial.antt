@@ -2,11 +2,11 @@
 -- and where g is odd, multiplying by x loses nothing: x^w + g then has the constant term 1, so that x has an inverse. Assumes nothing.
 use mathlib.Core.Path.{_≡_, refl, sym, ap, ap₂, _∙_, subst}
 use Prim.Native.Nat.{ℕ, zero, suc, _+_, _*_, _/_, _%_, _^_, _<_, _∣_, pred}
-use native.Mathlib.Nat.{mod-lt, zero-mul, one-mul, pow-suc, add-zero, add-suc, div-eq-of-lt, mod-eq-of-lt, div-self, mod-self, mod-mod-of-dvd, mul-mod-left, dvd-mul-left, div-lt-iff-lt-mul, mul-comm, suc-pred-eq-of-pos, zero-lt-suc, not-suc-le-zero}
+use native.Mathlib.Nat.{mod-lt, zero-mul, one-mul, pow-suc, add-zero, add-suc, div-eq-of-lt, mod-eq-of-lt, div-self, mod-self, mod-mod, mod-mod-of-dvd, mul-mod-left, dvd-mul-left, div-lt-iff-lt-mul, mul-comm, suc-pred-eq-of-pos, zero-lt-suc, not-suc-le-zero}
 use native.Mathlib.Numerals.{one-add}
 use native.Mathlib.Omega.{arith}
 use lib.Pow.{pow-pos, pow-lt, split}
-use lib.Bits.{bitXor, xor-lt, xor-mod, xor-shr, xor-self, xor-zero-r}
+use lib.Bits.{bitXor, bitAnd, and-mask, xor-lt, xor-mod, xor-shr, xor-self, xor-zero-r, xor-shifted}
 use Rattle.bits.proofs.Xor.{bit-cases, odd-lt, xor-odd, xor-swap, xor-eq, xor-double, xor-scale}
 use Rattle.polynomial.specs.Polynomial.{scale, timesX, timesPower, power}
 
@@ -23,6 +23,21 @@ scale-zero g = zero-mul g
 pub scale-one : (g : ℕ) → scale 1 g ≡ g
 unfolding scale
 scale-one g = one-mul g
+
+-- only whether c is odd matters
+pub scale-mod : (c g : ℕ) → scale (c % 2) g ≡ scale c g
+unfolding scale
+scale-mod c g = ap (λ (x : ℕ). x * g) (mod-mod c 2)
+
+-- as the code has it
+pub scale-and : (c g : ℕ) → bitAnd c 1 * g ≡ scale c g
+unfolding scale
+scale-and c g = ap (λ (x : ℕ). x * g) (and-mask c 1)
+
+-- above a smaller number
+pub scale-above : (c k m : ℕ) → m < 2 ^ k → bitXor (scale c (2 ^ k)) m ≡ c % 2 * 2 ^ k + m
+unfolding scale
+scale-above c k m h = xor-shifted (c % 2) k m h
 
 pub scale-lt : (w c g : ℕ) → g < 2 ^ w → scale c g < 2 ^ w
 unfolding scale
@@ -90,6 +105,14 @@ module _ (w g : ℕ) (some : 0 < w) (fits : g < 2 ^ w) (odd : g % 2 ≡ 1) where
       (timesX-xor w g a b ∙ ap (λ (x : ℕ). bitXor x (timesX w g b)) e ∙ xor-self (timesX w g b)))
 
 -- ---- times a power of x
+
+pub timesPower-none : (w g r : ℕ) → timesPower w g 0 r ≡ r
+unfolding timesPower
+timesPower-none w g r = refl
+
+pub timesPower-suc : (w g n r : ℕ) → timesPower w g (suc n) r ≡ timesX w g (timesPower w g n r)
+unfolding timesPower
+timesPower-suc w g n r = refl
 
 pub timesPower-xor : (w g n a b : ℕ) → timesPower w g n (bitXor a b) ≡ bitXor (timesPower w g n a) (timesPower w g n b)
 unfolding timesPower

@@ -1,8 +1,8 @@
 -- The code's step of a register of w bits is one bit more of the remainder. Assumes nothing.
-use mathlib.Core.Path.{_≡_, refl, sym, ap, _∙_}
+use mathlib.Core.Path.{_≡_, sym, ap, ap₂, _∙_}
 use mathlib.Core.List.{List, _++_}
 use Prim.Native.Nat.{ℕ, zero, suc, _+_, _-_, _*_, _/_, _%_, _^_, _<_, _≤_}
-use native.Mathlib.Nat.{not-suc-le-zero, one-mul, lt-of-lt-of-le}
+use native.Mathlib.Nat.{not-suc-le-zero, one-mul, lt-of-lt-of-le, mod-eq-of-lt}
 use native.Mathlib.Numerals.{sub-one}
 use native.Mathlib.Omega.{arith}
 use lib.ListN.{length, getD}
@@ -13,8 +13,8 @@ use Rattle.bits.proofs.Xor.{xor-assoc}
 use Rattle.bits.proofs.Runs.{bitsFrom, from-next, from-end, digits-octet}
 use Rattle.polynomial.specs.Polynomial.{scale, timesX}
 use Rattle.polynomial.specs.Remainder.{next, remainderFrom}
-use Rattle.polynomial.proofs.Polynomial.{scale-xor, scale-lt}
-use Rattle.polynomial.proofs.Remainder.{from-append}
+use Rattle.polynomial.proofs.Polynomial.{scale-xor, scale-and, scale-lt, top-lt}
+use Rattle.polynomial.proofs.Remainder.{from-append, no-digit, first-digit}
 
 -- ---- what the shifts and masks come to
 
@@ -28,8 +28,7 @@ pub mask-some : (w : ℕ) → w ≤ 31 → 1 ≤ 1 * 2 ^ w % 2 ^ 32
 mask-some w hw = rw (one-up w hw) (pow-pos w)
 
 pub multiple-fits : (w g x : ℕ) → w ≤ 31 → g < 2 ^ w → bitAnd x 1 * g < 2 ^ 32
-unfolding scale
-multiple-fits w g x hw hg = rw (and-mask x 1) (lt-of-lt-of-le (scale-lt w x g hg) (pow-mono {i = w} {j = 32} (omega arith)))
+multiple-fits w g x hw hg = rw (scale-and x g) (lt-of-lt-of-le (scale-lt w x g hg) (pow-mono {i = w} {j = 32} (omega arith)))
 
 pub step-code : (w g r b : ℕ) → w ≤ 31 → r < 2 ^ w
     → bitXor (bitAnd (bitXor (r * 2 % 2 ^ 32 / 2 ^ w) b) 1 * g) (bitAnd (r * 2 % 2 ^ 32) (1 * 2 ^ w % 2 ^ 32 - 1)) ≡ next w g r b
@@ -42,16 +41,21 @@ step-code w g r b hw hr =
     both : bitXor (r * 2 / 2 ^ w) b % 2 * g ≡ bitXor (scale (r * 2 / 2 ^ w) g) (scale b g)
     both = unfold scale in scale-xor (r * 2 / 2 ^ w) b g
 
+-- times x, where twice r is had already
+pub times-x : (w g r twice : ℕ) → r < 2 ^ w → twice ≡ r * 2 → bitXor (twice / 2 ^ w * g) (bitAnd twice (2 ^ w - 1)) ≡ timesX w g r
+unfolding timesX scale
+times-x w g r twice h e =
+    ap₂ (λ (x y : ℕ). bitXor (x * g) y)
+    (ap (λ (x : ℕ). x / 2 ^ w) e ∙ sym (mod-eq-of-lt (top-lt w r h))) (and-mask twice w ∙ ap (λ (x : ℕ). x % 2 ^ w) e)
+
 -- ---- the next bit of an octet, and the next octet
 
 pub next-digit : (w g r k v : ℕ) → 0 < k → remainderFrom w g (next w g r (bitAnd (v / 2 ^ (k - 1)) 1)) (digits (k - 1) v) ≡ remainderFrom w g r (digits k v)
-unfolding remainderFrom digits
 next-digit w g r zero v h = absurd (not-suc-le-zero h)
-next-digit w g r (suc n) v h = rw (sub-one (suc n), and-mask (v / 2 ^ n) 1)
+next-digit w g r (suc n) v h = rw (sub-one (suc n), and-mask (v / 2 ^ n) 1) (sym (first-digit w g r n v))
 
 pub no-digits : (w g r k v : ℕ) → k ≤ 0 → remainderFrom w g r (digits k v) ≡ r
-unfolding remainderFrom digits
-no-digits w g r zero v h = refl
+no-digits w g r zero v h = no-digit w g r v
 no-digits w g r (suc k) v h = absurd (not-suc-le-zero h)
 
 pub next-octets : (w g r i : ℕ) (octets : List ℕ) → i < length octets

@@ -12,7 +12,7 @@ use lib.Bits.{bitXor, xor-zero-r}
 use Rattle.bits.specs.Order.{bitAt, bitsOf, run, number, digits, wordBit, octetsIn}
 use Rattle.bits.proofs.Xor.{xor-swap}
 use Rattle.bits.proofs.Additive.{Additive, agree-test, shift-right, shift-left, shift-up, low-bits, after}
-use Rattle.bits.proofs.Runs.{run-append, digits-number}
+use Rattle.bits.proofs.Runs.{run-append, digits-number, from-start}
 use Rattle.bits.proofs.WordLists.{wordBit-lt, number-word, word-octet, bitsOf-octetsIn}
 use Rattle.bits.proofs.Tests.{every}
 use Rattle.polynomial.specs.Polynomial.{scale, timesX}
@@ -25,7 +25,7 @@ fecFrom = remainderFrom 26 0x0220211
 -- ---- sums of shifts
 
 -- s, and x shifted by each of some numbers of places
-unfoldable pub shifts : (ℕ → ℕ → ℕ) → List ℕ → ℕ → ℕ → ℕ
+unfoldable shifts : (ℕ → ℕ → ℕ) → List ℕ → ℕ → ℕ → ℕ
 shifts shift [] s x = s
 shifts shift (k ∷ ks) s x = shifts shift ks (bitXor s (shift k x)) x
 
@@ -38,15 +38,15 @@ shifts-xor shift h (k ∷ ks) s t x y =
     ∙ shifts-xor shift h ks (bitXor s (shift k x)) (bitXor t (shift k y)) x y
 
 -- x, and x shifted down
-unfoldable pub downs : List ℕ → ℕ → ℕ
+unfoldable downs : List ℕ → ℕ → ℕ
 downs ks x = shifts (λ k y. y / 2 ^ k) ks x x
 
 -- x, and x shifted up in 64 bits
-unfoldable pub ups : List ℕ → ℕ → ℕ
+unfoldable ups : List ℕ → ℕ → ℕ
 ups ks x = shifts (λ k y. y * 2 ^ k % 2 ^ 64) ks x x
 
 -- shifts down again and again
-unfoldable pub rounds : List (List ℕ) → ℕ → ℕ
+unfoldable rounds : List (List ℕ) → ℕ → ℕ
 rounds [] x = x
 rounds (ks ∷ kss) x = rounds kss (downs ks x)
 
@@ -63,11 +63,11 @@ rounds-additive (ks ∷ kss) a b =
 -- ---- a word
 
 -- the word times x^26, over the polynomial
-unfoldable pub quotient : ℕ → ℕ
+unfoldable quotient : ℕ → ℕ
 quotient = rounds ((5 ∷ 9 ∷ 17 ∷ 22 ∷ 26 ∷ []) ∷ (10 ∷ 18 ∷ 34 ∷ 44 ∷ 52 ∷ []) ∷ (20 ∷ 36 ∷ []) ∷ (40 ∷ []) ∷ [])
 
 -- the quotient times the polynomial's lower part
-unfoldable pub product : ℕ → ℕ
+unfoldable product : ℕ → ℕ
 product x = ups (4 ∷ 9 ∷ 17 ∷ 21 ∷ []) (quotient x)
 
 -- what the division leaves
@@ -104,10 +104,15 @@ of-both r word h l =
     ∙ sym (from-digits 26 0x0220211 64 0 r word 0)
     ∙ ap (λ (x : ℕ). fecFrom r (digits 64 x)) (xor-zero-r word)
 
--- as the code writes it, which casts r first
+-- as the code writes it out, which casts r first
 pub left-over : (r word wide : ℕ) → r < 2 ^ 26 → word < 2 ^ 64 → wide ≡ r
-    → product (bitXor word (wide * 2 ^ 38 % 2 ^ 64)) % 2 ^ 26 ≡ fecFrom r (digits 64 word)
-unfolding leftOver
+    → let q0 = bitXor word (wide * 2 ^ 38 % 2 ^ 64) in
+    let q1 = bitXor (bitXor (bitXor (bitXor (bitXor q0 (q0 / 2 ^ 5)) (q0 / 2 ^ 9)) (q0 / 2 ^ 17)) (q0 / 2 ^ 22)) (q0 / 2 ^ 26) in
+    let q2 = bitXor (bitXor (bitXor (bitXor (bitXor q1 (q1 / 2 ^ 10)) (q1 / 2 ^ 18)) (q1 / 2 ^ 34)) (q1 / 2 ^ 44)) (q1 / 2 ^ 52) in
+    let q4 = bitXor (bitXor q2 (q2 / 2 ^ 20)) (q2 / 2 ^ 36) in
+    let q8 = bitXor q4 (q4 / 2 ^ 40) in
+    bitXor (bitXor (bitXor (bitXor q8 (q8 * 2 ^ 4 % 2 ^ 64)) (q8 * 2 ^ 9 % 2 ^ 64)) (q8 * 2 ^ 17 % 2 ^ 64)) (q8 * 2 ^ 21 % 2 ^ 64) % 2 ^ 26 ≡ fecFrom r (digits 64 word)
+unfolding leftOver product quotient rounds ups downs shifts
 left-over r word wide h l e =
     ap (λ (x : ℕ). product (bitXor word x) % 2 ^ 26) (ap (λ (x : ℕ). x * 2 ^ 38 % 2 ^ 64) e ∙ shl-exact 26 38 64 h (lit≤ tt))
     ∙ of-both r word h l
@@ -151,7 +156,8 @@ module _ (w g : ℕ) where
 -- the octets that fill no word
 pub words-rest : (octets : List ℕ) (count s : ℕ) → 8 * count ≤ length octets → s ≡ fecFrom 0 (run (bitAt octets) 0 (64 * count))
     → fecFrom s (run (bitAt octets) (8 * (8 * count)) (8 * (length octets - 8 * count))) ≡ remainder 26 0x0220211 (bitsOf octets)
-unfolding remainder bitsOf
+unfolding remainder
 words-rest octets count s h p =
     ap (λ (r : ℕ). fecFrom r (run (bitAt octets) (8 * (8 * count)) (8 * (length octets - 8 * count)))) p
-    ∙ before 26 0x0220211 (bitAt octets) (64 * count) (8 * (length octets - 8 * count)) (8 * (8 * count)) (8 * length octets) (omega arith) (omega arith)
+    ∙ before 26 0x0220211 (bitAt octets) (64 * count) (8 * (length octets - 8 * count)) (8 * (8 * count)) (8 * (length octets - 0)) (omega arith) (omega arith)
+    ∙ ap (remainderFrom 26 0x0220211 0) (from-start octets)

@@ -2,7 +2,7 @@
 -- alike: document 01, "What the receiver releases". Assumes nothing.
 use mathlib.Core.Path.{_≡_, refl, sym, ap, _∙_, fun-ext}
 use mathlib.Core.Bool.{Bool, true, false}
-use mathlib.Core.List.{List, [], _∷_, _++_, append-assoc}
+use mathlib.Core.List.{List, [], _∷_, _++_, append-assoc, append-nil}
 use Prim.Native.Nat.{ℕ, zero, suc, _+_, _-_, _*_, _<_}
 use native.Mathlib.Nat.{add-zero, add-suc, mul-add}
 use native.Mathlib.Omega.{arith}
@@ -95,10 +95,6 @@ heard-moved R lane m =
     let bad : spoiltBit g lane m ≡ spoiltBit g (laneFrom g lane m) 0 = fun-ext (spoilt-moved g lane m) in
     rw (octets-moved g lane m, sync, bad)
 
-nil : (l : List Release) → l ++ [] ≡ l
-nil [] = refl
-nil (x ∷ l) = ap (λ (k : List Release). x ∷ k) (nil l)
-
 module _ (R : Row) (lane : ℕ → ℕ) where
   pub heard-from : (a b : ℕ) → heardAt R lane (a + b) ≡ heardAt R (laneFrom (R .gap) lane a) b
   heard-from a b =
@@ -110,7 +106,7 @@ module _ (R : Row) (lane : ℕ → ℕ) where
   -- the first a multiblocks, and then b more from the state they left
   pub run-cut : (s : Receiver) (a b : ℕ) → run R lane s (a + b) ≡ then (run R lane s a) (run R (laneFrom (R .gap) lane a) (run R lane s a .state) b)
   unfolding run
-  run-cut s a zero = ap (run R lane s) (add-zero a) ∙ ap (λ (l : List Release). record { state = run R lane s a .state; out = l }) (sym (nil (run R lane s a .out)))
+  run-cut s a zero = ap (run R lane s) (add-zero a) ∙ ap (λ (l : List Release). record { state = run R lane s a .state; out = l }) (sym (append-nil (run R lane s a .out)))
   run-cut s a (suc b) =
       let was = run R lane s a in
       let rest = laneFrom (R .gap) lane a in

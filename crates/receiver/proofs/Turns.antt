@@ -1,6 +1,6 @@
 -- One turn of a run after another: the state, and every buffer as the releases so far lie in it. Document 01, "What the receiver releases".
 -- Assumes nothing.
-use mathlib.Core.Path.{_≡_, refl, sym, ap, _∙_}
+use mathlib.Core.Path.{_≡_, refl, sym, ap, ap₂, _∙_}
 use mathlib.Core.Bool.{Bool, true}
 use mathlib.Core.List.{List, [], _∷_, _++_}
 use Prim.Native.Nat.{ℕ, _+_, _-_, _*_, _≤_, _<_}
@@ -13,6 +13,7 @@ use borrow.Rule.Slice.PartMut.{putMid, midOf, same-len-mid}
 use Rattle.bits.specs.Choice.{pick}
 use Rattle.bits.specs.Order.{bitAt, number, laid}
 use Rattle.bits.specs.Parts.{written}
+use Rattle.bits.proofs.Laid.{laid-nothing, laid-set, laid-part}
 use Rattle.bits.proofs.Parts.{answered}
 use Rattle.scrambler.specs.Scrambling.{descrambled}
 use Rattle.frame.specs.Modes.{Row, row}
@@ -23,7 +24,7 @@ use Rattle.judge.specs.Judge.{judged, mended, marked, trustedAfter}
 use Rattle.receiver.specs.Release.{Release, Step, verdictAt, mendedAt, releaseAt, waitingAt, step, run}
 use Rattle.receiver.specs.Entry.{octetsOut, listed, done, laidOut}
 use Rattle.receiver.specs.Turn.{heardAt, Room, Turned}
-use Rattle.receiver.proofs.Buffers.{laid-one, laid-part, listed-more, listed-length, octets-more, release-length, octets-length}
+use Rattle.receiver.proofs.Buffers.{listed-more, listed-length, octets-more, release-length, octets-length}
 use Rattle.receiver.proofs.Counts.{run-more, run-waits, all-counted, counted}
 use Rattle.receiver.proofs.Cut.{same-step, same-release, heard-from, bits-from}
 
@@ -77,14 +78,14 @@ pub record Held (R : Row) (lane : ℕ → ℕ) (start : Receiver) (k : ℕ) (s :
   pub patterns-long : length q ≡ length q₀
 
 pub held-none : (R : Row) (lane : ℕ → ℕ) (start : Receiver) (o st c p q : List ℕ) → Held R lane start 0 start o st c p q o st c p q
-unfolding run laid octetsOut listed
+unfolding run octetsOut listed
 held-none R lane start o st c p q = record {
   state = refl;
-  octets = refl;
-  statuses = refl;
-  commands = refl;
-  places = refl;
-  patterns = refl;
+  octets = sym (laid-nothing o);
+  statuses = sym (laid-nothing st);
+  commands = sym (laid-nothing c);
+  places = sym (laid-nothing p);
+  patterns = sym (laid-nothing q);
   octets-long = refl;
   statuses-long = refl;
   commands-long = refl;
@@ -96,7 +97,9 @@ held-none R lane start o st c p q = record {
 list-more : (f : Release → ℕ) (out : List Release) (r : Release) (k : ℕ) (old was now : List ℕ) → length out ≡ k → k < length old → was ≡ laid (listed f out) old → now ≡ set was k (f r)
     → now ≡ laid (listed f (out ++ (r ∷ []))) old
 list-more f out r k old was now l h e e′ =
-    e′ ∙ ap (λ (x : List ℕ). set x k (f r)) e ∙ laid-one (listed f out) old k (f r) (listed-length f out ∙ l) h
+    let here : length (listed f out) ≡ k = listed-length f out ∙ l in
+    e′ ∙ ap₂ (λ (x : List ℕ) (j : ℕ). set x j (f r)) e (sym here)
+    ∙ laid-set (listed f out) old (f r) (omega arith)
     ∙ ap (λ (x : List ℕ). laid x old) (sym (listed-more f out r))
 
 module _ (mode : ℕ) (lane : List ℕ) (start : Receiver) (k n : ℕ) (s : Receiver) (o₀ st₀ c₀ p₀ q₀ o st c p q : List ℕ) (w : start .waiting ≡ true) (less : k < n)

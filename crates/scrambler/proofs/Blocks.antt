@@ -9,7 +9,7 @@ use lib.Dec.{lit≤}
 use lib.Pow.{pow-pos, pow-add, pow-mono, shr-shr, shl-shr}
 use lib.Bits.{bitXor, xor-shr, xor-mod, xor-zero-r, xor-self, xor-lt}
 use Rattle.bits.specs.Order.{number, digit}
-use Rattle.bits.proofs.Numbers.{low-digit, number-ext, number-lt, number-digit, number-low, digit-number, digit-lt}
+use Rattle.bits.proofs.Numbers.{low-digit, number-ext, number-lt, digit-at, number-digit, number-low, digit-number, digit-lt}
 use Rattle.bits.proofs.Xor.{xor-assoc, xor-swap}
 use Rattle.scrambler.specs.Scrambling.{sent, historyAfter, earlier, plain}
 use Rattle.scrambler.proofs.Scrambling.{earlier-in, earlier-out, recent-plain, plain-ext, allCome, come-number, plain-add, sent-ext, sent-add, sent-lt, undone, history-sent}
@@ -42,7 +42,8 @@ module _ (block history : ℕ) (block-lt : block < 2 ^ 64) where
       go : Dec (d ≤ j) → earlier history (digit 64 block) j d ≡ bitXor (block / 2 ^ (d + (63 - j)) % 2) (history * 2 ^ i / 2 ^ (63 - j) % 2)
       go (yes q) =
           earlier-in history (digit 64 block) j d q
-          ∙ unfold digit in (ap (λ (x : ℕ). block / 2 ^ x % 2) {x = 64 - 1 - (j - d)} {y = d + (63 - j)} (omega arith))
+          ∙ digit-at 64 block (j - d)
+          ∙ ap (λ (x : ℕ). block / 2 ^ x % 2) {x = 64 - 1 - (j - d)} {y = d + (63 - j)} (omega arith)
           ∙ sym (ap (bitXor (block / 2 ^ (d + (63 - j)) % 2)) (shifted-in history i (63 - j) (omega arith)) ∙ xor-zero-r (block / 2 ^ (d + (63 - j)) % 2))
       go (no q) =
           earlier-out history (digit 64 block) j d (omega arith)
@@ -72,9 +73,9 @@ module _ (block history : ℕ) (block-lt : block < 2 ^ 64) where
 
       bit : (j : ℕ) → j < 64 → plain history (digit 64 block) j ≡ digit 64 v j
       bit j l =
-          unfold plain digit in refl
-          ∙ ap₂ bitXor (unfold digit in (ap (λ (x : ℕ). block / 2 ^ x % 2) {x = 64 - 1 - j} {y = 63 - j} (omega arith))) (ap₂ bitXor (tap 39 25 j refl l) (tap 58 6 j refl l))
-          ∙ sym (unfold digit in (ap (λ (x : ℕ). v / 2 ^ x % 2) {x = 64 - 1 - j} {y = 63 - j} (omega arith))
+          unfold plain in refl
+          ∙ ap₂ bitXor (digit-at 64 block j) (ap₂ bitXor (tap 39 25 j refl l) (tap 58 6 j refl l))
+          ∙ sym (digit-at 64 v j
           ∙ ap (λ (x : ℕ). x % 2) (xor-shr block (bitXor p q) (63 - j) ∙ ap (bitXor (block / 2 ^ (63 - j))) (xor-shr p q (63 - j)))
           ∙ xor-mod (block / 2 ^ (63 - j)) (bitXor (p / 2 ^ (63 - j)) (q / 2 ^ (63 - j))) 1
           ∙ ap (bitXor (block / 2 ^ (63 - j) % 2)) (xor-mod (p / 2 ^ (63 - j)) (q / 2 ^ (63 - j)) 1))

@@ -14,7 +14,7 @@ use lib.Pow.{pow-pos, shr-shr, high, low, mod-mod-pow, mod-pow-add}
 use lib.Bits.{bitXor, xor-lt, xor-self, xor-zero-r}
 use Rattle.bits.specs.Order.{bitAt, number, octetsOf, wordBit, wordsOf, octetsIn, laid}
 use Rattle.bits.proofs.Xor.{xor-assoc}
-use Rattle.bits.proofs.Numbers.{low-digit, bitAt-lt, number-lt, number-ext, number-octet}
+use Rattle.bits.proofs.Numbers.{low-digit, bitAt-lt, number-none, number-more, number-lt, number-ext, number-octet}
 use Rattle.bits.proofs.Octets.{length-octetsOf, getD-octetsOf, bit-octetsOf, octetsOf-ext}
 use Rattle.bits.proofs.Laid.{laid-all}
 use Rattle.bits.proofs.WordLists.{length-wordsOf, bit-wordsOf, octetsIn-wordsOf}
@@ -131,13 +131,14 @@ module _ (history : ℕ) (stream : ℕ → ℕ) where
 
     -- its n low bits are the n latest
     pub come-number : (k n : ℕ) → allCome history stream (k + n) % 2 ^ n ≡ number stream k n
-    unfolding number
-    come-number k zero = mod-one (allCome history stream (k + 0))
+    come-number k zero = mod-one (allCome history stream (k + 0)) ∙ number-none stream k
     come-number k (suc n) =
         ap₂ (λ (x y : ℕ). allCome history stream x % 2 ^ y) (add-suc k n) (sym (add-one n))
         ∙ mod-pow-add (allCome history stream (suc (k + n))) n 1
         ∙ ap₂ (λ (x y : ℕ). x % 2 ^ n * 2 + y) (half (k + n)) (latest (k + n))
         ∙ ap (λ (x : ℕ). x * 2 + stream (k + n)) (come-number k n)
+        ∙ sym (number-more stream k n)
+        ∙ ap (number stream k) (add-one n)
 
     -- descrambling adds what the sender added
     plain-come : (k : ℕ) → plain history stream k ≡ sentBit (stream k) (allCome history stream k)

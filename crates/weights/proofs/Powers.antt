@@ -1,6 +1,6 @@
 -- A list whose last entry is 1, and whose every other entry is x times the next, holds the powers of x, highest first. One computed test.
 -- Assumes nothing.
-use mathlib.Core.Path.{_≡_, ap, ap₂, _∙_}
+use mathlib.Core.Path.{_≡_, sym, ap, ap₂, _∙_}
 use mathlib.Core.Bool.{Bool, false, _&&_}
 use mathlib.Core.List.{List, [], _∷_}
 use Prim.Native.Nat.{ℕ, suc, _+_, _-_}
@@ -8,8 +8,10 @@ use native.Mathlib.Omega.{arith}
 use lib.Dec.{T, eqb, eqb→eq}
 use lib.ListN.{length}
 use Rattle.bits.specs.Order.{run}
+use Rattle.bits.proofs.Runs.{run-one, run-first}
 use Rattle.bits.proofs.Tests.{left, right}
-use Rattle.polynomial.specs.Polynomial.{timesX, timesPower, power}
+use Rattle.polynomial.specs.Polynomial.{timesX, power}
+use Rattle.polynomial.proofs.Polynomial.{timesPower-none, timesPower-suc}
 
 module _ (w g : ℕ) where
   abbrev pub chain : ℕ → List ℕ → Bool
@@ -21,19 +23,20 @@ module _ (w g : ℕ) where
   chained (x ∷ l) = chain x l
 
   first : (x : ℕ) (l : List ℕ) → T (chain x l) → x ≡ power w g (length l)
-  unfolding timesPower
-  first x [] t = eqb→eq x 1 t
+  first x [] t = eqb→eq x 1 t ∙ sym (timesPower-none w g 1)
   first x (y ∷ l) t =
       eqb→eq x (timesX w g y) (left (eqb x (timesX w g y)) (chain y l) t) ∙ ap (timesX w g) (first y l (right (eqb x (timesX w g y)) (chain y l) t))
+      ∙ sym (timesPower-suc w g (length l) 1)
 
   -- of n positions, from position p on
   from : (n x : ℕ) (l : List ℕ) (p : ℕ) → T (chain x l) → p + suc (length l) ≡ suc n → x ∷ l ≡ run (λ p. power w g (n - p)) p (suc (length l))
-  unfolding run
-  from n x [] p t e = ap (λ (y : ℕ). y ∷ []) (first x [] t ∙ ap (power w g) {x = 0} {y = n - p} (omega arith))
+  from n x [] p t e =
+      ap (λ (y : ℕ). y ∷ []) (first x [] t ∙ ap (power w g) {x = 0} {y = n - p} (omega arith)) ∙ sym (run-one (λ p. power w g (n - p)) p)
   from n x (y ∷ l) p t e =
       ap₂ (λ (a : ℕ) (b : List ℕ). a ∷ b)
       (first x (y ∷ l) t ∙ ap (power w g) {x = suc (length l)} {y = n - p} (omega arith))
       (from n y l (suc p) (right (eqb x (timesX w g y)) (chain y l) t) (omega arith))
+      ∙ sym (run-first (λ p. power w g (n - p)) p (suc (length l)))
 
   pub table : (n : ℕ) (l : List ℕ) → T (chained l) → length l ≡ suc n → l ≡ run (λ p. power w g (n - p)) 0 (suc n)
   table n [] t e = absurd t

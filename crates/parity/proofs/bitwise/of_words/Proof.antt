@@ -2,13 +2,13 @@
 -- Assumes nothing.
 use borrow.Author.Needs.{needs}
 use Prim.Native.Nat.{ℕ, _-_, _*_, _^_, _≤_, _<_}
-use mathlib.Core.Path.{_≡_, refl, ap, _∙_}
+use mathlib.Core.Path.{_≡_, sym, ap, _∙_}
 use native.Mathlib.Omega.{arith}
 use lib.ListN.{length}
 use lib.Pow.{pow-pos}
 use Rattle.bits.specs.Order.{wordBit, run}
 use Rattle.polynomial.specs.Remainder.{remainderFrom}
-use Rattle.polynomial.proofs.Remainder.{from-lt}
+use Rattle.polynomial.proofs.Remainder.{from-none, from-lt}
 use Rattle.polynomial.proofs.Words.{octet-next}
 use Rattle.parity.proofs.bitwise.of_words.Statement.{statement}
 use Rattle.parity.proofs.bitwise.of_words.Tie as tie
@@ -23,7 +23,7 @@ mul-i-end : tie.Need-mul-i-end Inv-loop μ-loop
 mul-i-end c = search needs
 
 loop-holds : tie.Need-loop-holds Inv-loop μ-loop
-loop-holds c = (search needs, search needs, pow-pos (c .before .args .w), unfold remainderFrom run in refl)
+loop-holds c = (search needs, search needs, pow-pos (c .before .args .w), sym (from-none (c .before .args .w) (c .before .args .g) 0 (wordBit (c .before .args .words .now)) 0))
 
 mul-octet : tie.Need-mul-octet Inv-loop μ-loop
 mul-octet c = search needs

@@ -6,8 +6,8 @@ use mathlib.Core.Path.{_≡_, ap, _∙_}
 use native.Mathlib.Omega.{arith}
 use native.Mathlib.Nat.{mod-eq-of-lt}
 use Rattle.polynomial.specs.Polynomial.{scale}
-use Rattle.polynomial.proofs.Polynomial.{scale-lt}
-use Rattle.parity.proofs.Trap.{Gathered, gather-none, gather-bit, gather-more}
+use Rattle.polynomial.proofs.Polynomial.{scale-and, scale-lt}
+use Rattle.parity.proofs.Trap.{Gathered, gather-none, gather-more}
 use Rattle.parity.proofs.search.first_trap.Statement.{statement}
 use Rattle.parity.proofs.search.first_trap.Tie as tie
 
@@ -28,7 +28,7 @@ mul-trap c =
     let l = c .before .loop in
     let s = c .before .before .args .remainder in
     let h : scale (s / 2 ^ l .k) (l .power) < 2 ^ 26 = scale-lt 26 (s / 2 ^ l .k) (l .power) (l .inv .1 .power-lt) in
-    rw (gather-bit s (l .k) (l .power)) (omega arith)
+    rw (scale-and (s / 2 ^ l .k) (l .power)) (omega arith)
 
 times-x-requires : tie.Need-times-x-requires Inv-loop μ-loop
 times-x-requires c κs = c .before .loop .inv .1 .power-lt

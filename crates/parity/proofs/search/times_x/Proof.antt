@@ -4,7 +4,7 @@ use borrow.Author.Needs.{needs}
 use Prim.Native.Nat.{_*_, _%_, _^_}
 use native.Mathlib.Omega.{arith}
 use native.Mathlib.Nat.{mod-eq-of-lt}
-use Rattle.parity.proofs.Trap.{times-x}
+use Rattle.polynomial.proofs.Register.{times-x}
 use Rattle.parity.proofs.search.times_x.Statement.{statement}
 use Rattle.parity.proofs.search.times_x.Tie as tie
 
@@ -12,7 +12,7 @@ mul-result : tie.Need-mul-result
 mul-result c = search needs
 
 returns : tie.Need-returns
-returns c = times-x (c .args .r) (c .args .r * 2 % 2 ^ 32) (c .pre) (mod-eq-of-lt (omega arith))
+returns c = times-x 26 0x0220211 (c .args .r) (c .args .r * 2 % 2 ^ 32) (c .pre) (mod-eq-of-lt (omega arith))
 
 pub times-x-spec : {M : Type 1} → statement M
 times-x-spec = tie.close (tie.spec mul-result returns)

@@ -2,7 +2,7 @@
 -- Assumes nothing.
 use borrow.Author.Needs.{needs}
 use native.Mathlib.Omega.{arith}
-use Rattle.polynomial.proofs.Words.{product, quotient, rounds, ups, downs, shifts, left-over}
+use Rattle.polynomial.proofs.Words.{left-over}
 use Rattle.parity.proofs.word.next_word.Statement.{statement}
 use Rattle.parity.proofs.word.next_word.Tie as tie
 
@@ -13,7 +13,6 @@ cast-result : tie.Need-cast-result
 cast-result c = search needs
 
 returns : tie.Need-returns
-unfolding product quotient rounds ups downs shifts
 returns c =
     left-over (c .before .args .r) (c .before .args .word) (c .wide .result) (c .before .pre) (omega arith) (c .wide .ensures)
 

@@ -2,11 +2,12 @@
 -- Assumes nothing.
 use borrow.Author.Needs.{needs}
 use Prim.Native.Nat.{ℕ, _-_, _*_, _≤_}
-use mathlib.Core.Path.{_≡_, refl, ap, _∙_}
+use mathlib.Core.Path.{_≡_, sym, ap, _∙_}
 use native.Mathlib.Omega.{arith}
 use lib.ListN.{length}
 use Rattle.bits.specs.Order.{wordBit, run}
 use Rattle.polynomial.specs.Remainder.{remainderFrom}
+use Rattle.polynomial.proofs.Remainder.{from-none}
 use Rattle.polynomial.proofs.Words.{fecFrom-lt, word-next}
 use Rattle.parity.proofs.word.of_words.Statement.{statement}
 use Rattle.parity.proofs.word.of_words.Tie as tie
@@ -18,7 +19,7 @@ abbrev μ-loop : tie.MeasureT-loop
 μ-loop words s₀ i₀ i-end s i = length words - i
 
 loop-holds : tie.Need-loop-holds Inv-loop μ-loop
-loop-holds c = (search needs, search needs, unfold remainderFrom run in refl)
+loop-holds c = (search needs, search needs, sym (from-none 26 0x0220211 0 (wordBit (c .before .args .words .now)) 0))
 
 mul-next-word : tie.Need-mul-next-word Inv-loop μ-loop
 mul-next-word c = search needs

@@ -2,11 +2,12 @@
 -- Assumes nothing.
 use borrow.Author.Needs.{needs}
 use Prim.Native.Nat.{ℕ, _-_, _*_, _≤_}
-use mathlib.Core.Path.{_≡_, refl, ap, _∙_}
+use mathlib.Core.Path.{_≡_, sym, ap, _∙_}
 use native.Mathlib.Omega.{arith}
 use Rattle.bits.specs.Order.{bitAt, run}
 use Rattle.bits.proofs.Numbers.{bitAt-lt}
 use Rattle.polynomial.specs.Remainder.{remainderFrom}
+use Rattle.polynomial.proofs.Remainder.{from-none}
 use Rattle.polynomial.proofs.Words.{fecFrom-lt, word-more}
 use Rattle.parity.proofs.word.words.Statement.{statement}
 use Rattle.parity.proofs.word.words.Tie as tie
@@ -18,7 +19,7 @@ abbrev μ-loop : tie.MeasureT-loop
 μ-loop octets count s₀ i₀ s i = count - i
 
 loop-holds : tie.Need-loop-holds Inv-loop μ-loop
-loop-holds c = (search needs, unfold remainderFrom run in refl)
+loop-holds c = (search needs, sym (from-none 26 0x0220211 0 (bitAt (c .before .args .octets .now)) 0))
 
 mul-word-at : tie.Need-mul-word-at Inv-loop μ-loop
 mul-word-at c = search needs
