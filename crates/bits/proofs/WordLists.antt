@@ -5,9 +5,8 @@ use Prim.Native.Nat.{ℕ, zero, suc, _+_, _-_, _*_, _/_, _%_, _^_, _<_}
 use native.Mathlib.Nat.{zero-add, add-zero, add-suc, mod-eq-of-lt}
 use native.Mathlib.Omega.{arith}
 use lib.ListN.{length, getD, set}
-use lib.Pow.{shr-shr}
 use Rattle.bits.specs.Order.{bitAt, run, bitsOf, number, digit, digits, octetsOf, wordBit, wordsOf, octetsIn, laid}
-use Rattle.bits.proofs.Numbers.{digit-lt, digit-number, low-digit, number-ext, number-whole}
+use Rattle.bits.proofs.Numbers.{digit-lt, digit-number, number-ext, number-whole}
 use Rattle.bits.proofs.Runs.{run-ext, run-append, length-run, getD-run}
 use Rattle.bits.proofs.Octets.{length-octetsOf, bit-octetsOf, octetsOf-ext}
 use Rattle.bits.proofs.Laid.{laid-set}
@@ -28,24 +27,6 @@ module _ (words : List ℕ) where
       number-ext (wordBit words) (λ j. getD words i 0 / 2 ^ (64 - 1 - j) % 2) (64 * i) 0 64 (λ j q. wordBit-word i j q ∙ ap (digit 64 (getD words i 0)) (sym (zero-add j)))
       ∙ number-whole 64 (getD words i 0)
       ∙ mod-eq-of-lt h
-
-  -- an octet of a word
-  octet-from : (i n j : ℕ) → j + n ≡ 8 → digits n (getD words (i / 8) 0 / 2 ^ (56 - 8 * (i % 8)) % 2 ^ 8) ≡ run (wordBit words) (8 * i + j) n
-  unfolding digits run wordBit digit
-  octet-from i zero j e = refl
-  octet-from i (suc n) j e =
-      let v = getD words (i / 8) 0 in
-      let s = 56 - 8 * (i % 8) in
-      let word : i / 8 ≡ (8 * i + j) / 64 = omega arith in
-      let place : s + n ≡ 64 - 1 - (8 * i + j) % 64 = omega arith in
-      ap₂ (λ (a : ℕ) (b : List ℕ). a ∷ b)
-      (low-digit (v / 2 ^ s) 8 n (omega arith)
-      ∙ ap (λ (x : ℕ). x % 2) (shr-shr v s n)
-      ∙ ap₂ (λ (x y : ℕ). getD words x 0 / 2 ^ y % 2) word place)
-      (octet-from i n (suc j) (omega arith) ∙ ap (λ (k : ℕ). run (wordBit words) k n) (add-suc (8 * i) j))
-
-  pub word-octet : (i : ℕ) → digits 8 (getD words (i / 8) 0 / 2 ^ (56 - 8 * (i % 8)) % 2 ^ 8) ≡ run (wordBit words) (8 * i) 8
-  word-octet i = octet-from i 8 0 refl ∙ ap (λ (k : ℕ). run (wordBit words) k 8) (add-zero (8 * i))
 
   -- the octets that words hold
   pub length-octetsIn : length (octetsIn words) ≡ 8 * length words

@@ -1,9 +1,11 @@
 -- The remainder of data, with the parity received, is the sum of the weights of the codeword's set positions. Assumes nothing.
 use mathlib.Core.Path.{_≡_, refl, sym, ap, ap₂, _∙_}
+use mathlib.Core.Bool.{Bool, true, false}
 use mathlib.Core.List.{List}
 use Prim.Native.Nat.{ℕ, zero, suc, _+_, _-_, _*_, _/_, _%_, _^_, _≤_, _<_}
 use native.Mathlib.Nat.{add-zero, zero-add, add-suc, suc-add, le-refl, mod-eq-of-lt, zero-lt-suc}
 use native.Mathlib.Omega.{arith}
+use lib.Dec.{lit<}
 use lib.Pow.{pow-pos, pow-lt}
 use lib.Bits.{bitXor, xor-lt, xor-zero-r}
 use borrow.Author.Tests.{lt-ltb, le-ltb}
@@ -14,7 +16,12 @@ use Rattle.polynomial.specs.Polynomial.{scale, timesPower, power}
 use Rattle.polynomial.specs.Remainder.{next, remainderFrom, remainder}
 use Rattle.polynomial.proofs.Remainder.{from-zero, from-none, from-first, next-power, remainder-lt}
 use Rattle.polynomial.proofs.Polynomial.{scale-xor, scale-above, scale-lt, timesPower-none, timesPower-zero, timesPower-lt, power-low}
-use Rattle.parity.specs.Codeword.{Code, parityOf, weight, codeword, weighed, remainderOf}
+use Rattle.parity.specs.Codeword.{Code, codeOf, parityOf, weight, codeword, weighed, remainderOf}
+
+-- a polynomial's lower part is below 2 to its width
+pub code-fits : (fec : Bool) → codeOf fec .lower < 2 ^ codeOf fec .width
+code-fits true = lit< tt
+code-fits false = lit< tt
 
 module _ (C : Code) where
   -- the same positions set, the same sum

@@ -1,8 +1,8 @@
-// The remainder of octets and of words, bit by bit, at any width up to 31: document 01, "Parity".
+// The remainder of octets, bit by bit, at any width up to 31: document 01, "Parity".
 ghost use mathlib.Core.Path.{_≡_};
 ghost use Prim.Native.Nat.{_-_, _*_, _^_, _<_, _≤_};
 ghost use lib.ListN.{length};
-ghost use Rattle.bits.specs.Order.{bitAt, run, digits, wordBit};
+ghost use Rattle.bits.specs.Order.{bitAt, run, digits};
 ghost use Rattle.polynomial.specs.Remainder.{next, remainderFrom};
 
 // One bit more.
@@ -38,19 +38,6 @@ pub(crate) fn rest(w: u32, g: u32, r: u32, octets: &[u8], from: usize) -> u32
     let mut s = r;
     for i in from..octets.len() {
         s = next_octet(w, g, s, octets[i]);
-    }
-    s
-}
-
-// All words, octet by octet.
-pub(crate) fn of_words(w: u32, g: u32, words: &[u64]) -> u32
-    requires { ⌜ (w ≤ 31) × (g < 2 ^ w) ⌝ }
-    ensures { λ s. ⌜ s ≡ remainderFrom w g 0 (run (wordBit (now (words .entry))) 0 (64 * length (now (words .entry)))) ⌝ }
-{
-    let mut s: u32 = 0;
-    for i in 0..8 * words.len() {
-        let octet = (words[i / 8] >> (56 - 8 * (i % 8))) % 256;
-        s = next_octet(w, g, s, octet as u8);
     }
     s
 }

@@ -29,14 +29,16 @@ impl Crc12 {
     pub fn of(octets: &[u8]) -> u32
         ensures { λ r. ⌜ r ≡ parityOf crc12 (now (octets .entry)) ⌝ }
     {
-        bitwise::rest(Crc12::WIDTH, Crc12::LOWER, 0, octets, 0)
+        let count = octets.len() / 8;
+        let r = word::words(false, octets, count);
+        bitwise::rest(Crc12::WIDTH, Crc12::LOWER, r, octets, 8 * count)
     }
 
     // The parity of the octets that words hold, of any number.
     pub fn of_words(words: &[u64]) -> u32
         ensures { λ r. ⌜ r ≡ parityOf crc12 (octetsIn (now (words .entry))) ⌝ }
     {
-        bitwise::of_words(Crc12::WIDTH, Crc12::LOWER, words)
+        word::of_words(false, words)
     }
 }
 
@@ -56,7 +58,7 @@ impl Fec {
         ensures { λ r. ⌜ r ≡ parityOf fec (now (octets .entry)) ⌝ }
     {
         let count = octets.len() / 8;
-        let r = word::words(octets, count);
+        let r = word::words(true, octets, count);
         bitwise::rest(Fec::WIDTH, Fec::LOWER, r, octets, 8 * count)
     }
 
@@ -64,7 +66,7 @@ impl Fec {
     pub fn of_words(words: &[u64]) -> u32
         ensures { λ r. ⌜ r ≡ parityOf fec (octetsIn (now (words .entry))) ⌝ }
     {
-        word::of_words(words)
+        word::of_words(true, words)
     }
 
     // The weights of all positions.

@@ -1,9 +1,10 @@
-// The FEC remainder 64 bits at once, without a table: clause 7.5.2.
+// Remainders word by word, without a table: clauses 7.4.2 and 7.5.2.
 ghost use mathlib.Core.Path.{_≡_};
 ghost use Prim.Native.Nat.{_*_, _^_, _<_, _≤_};
 ghost use lib.ListN.{length};
 ghost use Rattle.bits.specs.Order.{bitAt, run, digits, wordBit};
 ghost use Rattle.polynomial.specs.Remainder.{remainderFrom};
+ghost use Rattle.parity.specs.Codeword.{codeOf};
 
 fn wide(r: u32) -> u64
     ensures { λ s. ⌜ s ≡ r ⌝ }
@@ -11,9 +12,9 @@ fn wide(r: u32) -> u64
     r as u64
 }
 
-// 64 bits more. The quotient of the word times x^26 by the polynomial is the word over 1 + u, where u = x^-5 + x^-9 + x^-17 +
+// 64 bits more with FEC, at once. The quotient of the word times x^26 by the polynomial is the word over 1 + u, where u = x^-5 + x^-9 + x^-17 +
 // x^-22 + x^-26: that is the word times (1 + u)(1 + u^2)(1 + u^4)(1 + u^8), since no term from u^16 on reaches into 64 bits.
-fn next_word(r: u32, word: u64) -> u32
+fn fec_word(r: u32, word: u64) -> u32
     requires { ⌜ r < 2 ^ 26 ⌝ }
     ensures { λ s. ⌜ s ≡ remainderFrom 26 0x0220211 r (digits 64 word) ⌝ }
 {
@@ -25,25 +26,47 @@ fn next_word(r: u32, word: u64) -> u32
     ((q8 ^ (q8 << 4) ^ (q8 << 9) ^ (q8 << 17) ^ (q8 << 21)) % 0x400_0000) as u32
 }
 
+// 64 bits more with CRC-12, bit by bit, in a register whose upper 12 bits are the remainder.
+fn crc12_word(r: u32, word: u64) -> u32
+    requires { ⌜ r < 2 ^ 12 ⌝ }
+    ensures { λ s. ⌜ s ≡ remainderFrom 12 0x30F r (digits 64 word) ⌝ }
+{
+    let mut register = word ^ (wide(r) << 52);
+    for _ in 0..64u32 {
+        register = (register << 1) ^ ((register >> 63) * 0x30F0_0000_0000_0000);
+    }
+    (register >> 52) as u32
+}
+
+fn next_word(fec: bool, r: u32, word: u64) -> u32
+    requires { ⌜ r < 2 ^ codeOf fec .width ⌝ }
+    ensures { λ s. ⌜ s ≡ remainderFrom (codeOf fec .width) (codeOf fec .lower) r (digits 64 word) ⌝ }
+{
+    if fec {
+        return fec_word(r, word);
+    }
+    crc12_word(r, word)
+}
+
 // The first octets, a whole number of words.
-pub(crate) fn words(octets: &[u8], count: usize) -> u32
+pub(crate) fn words(fec: bool, octets: &[u8], count: usize) -> u32
     requires { ⌜ 8 * count ≤ length (now octets) ⌝ }
-    ensures { λ s. ⌜ s ≡ remainderFrom 26 0x0220211 0 (run (bitAt (now (octets .entry))) 0 (64 * count)) ⌝ }
+    ensures { λ s. ⌜ s ≡ remainderFrom (codeOf fec .width) (codeOf fec .lower) 0 (run (bitAt (now (octets .entry))) 0 (64 * count)) ⌝ }
 {
     let mut s: u32 = 0;
     for i in 0..count {
-        s = next_word(s, bits::word_at(octets, 8 * i));
+        s = next_word(fec, s, bits::word_at(octets, 8 * i));
     }
     s
 }
 
 // All of a list of words.
-pub(crate) fn of_words(words: &[u64]) -> u32
-    ensures { λ s. ⌜ s ≡ remainderFrom 26 0x0220211 0 (run (wordBit (now (words .entry))) 0 (64 * length (now (words .entry)))) ⌝ }
+pub(crate) fn of_words(fec: bool, words: &[u64]) -> u32
+    ensures { λ s. ⌜ s ≡ remainderFrom (codeOf fec .width) (codeOf fec .lower) 0 (run (wordBit (now (words .entry))) 0 (64 * length (now (words .entry)))) ⌝ }
 {
     let mut s: u32 = 0;
     for i in 0..words.len() {
-        s = next_word(s, words[i]);
+        s = next_word(fec, s, words[i]);
     }
     s
 }

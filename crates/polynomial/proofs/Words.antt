@@ -1,23 +1,23 @@
--- The FEC remainder 64 bits at once. The code's shifts and the remainder both add up, so they agree on every word once they agree on each
--- single bit, which the checker computes. Assumes nothing.
+-- The FEC remainder 64 bits at once by shifts, and any remainder word by word. Assumes nothing.
 use mathlib.Core.Path.{_≡_, refl, sym, ap, ap₂, _∙_}
 use mathlib.Core.List.{List, [], _∷_}
 use Prim.Native.Nat.{ℕ, _+_, _-_, _*_, _/_, _%_, _^_, _≤_, _<_}
 use native.Mathlib.Nat.{zero-add}
 use native.Mathlib.Omega.{arith}
 use lib.ListN.{length, getD}
-use lib.Dec.{T, eqb, lit<, lit≤}
+use lib.Dec.{T, eqb, lit≤}
 use lib.Pow.{shl-exact}
-use lib.Bits.{bitXor, xor-zero-r}
+use lib.Bits.{bitXor}
 use Rattle.bits.specs.Order.{bitAt, bitsOf, run, number, digits, wordBit, octetsIn}
 use Rattle.bits.proofs.Xor.{xor-swap}
-use Rattle.bits.proofs.Additive.{Additive, agree-test, shift-right, shift-left, shift-up, low-bits, after}
+use Rattle.bits.proofs.Additive.{Additive, shift-right, shift-left, low-bits, after}
 use Rattle.bits.proofs.Runs.{run-append, digits-number, from-start}
-use Rattle.bits.proofs.WordLists.{wordBit-lt, number-word, word-octet, bitsOf-octetsIn}
+use Rattle.bits.proofs.WordLists.{wordBit-lt, number-word, bitsOf-octetsIn}
 use Rattle.bits.proofs.Tests.{every}
 use Rattle.polynomial.specs.Polynomial.{scale, timesX}
 use Rattle.polynomial.specs.Remainder.{next, remainderFrom, remainder}
-use Rattle.polynomial.proofs.Remainder.{from-digits, from-append, from-lt}
+use Rattle.polynomial.proofs.Remainder.{from-append}
+use Rattle.polynomial.proofs.Division.{divides}
 
 abbrev fecFrom : ℕ → List ℕ → ℕ
 fecFrom = remainderFrom 26 0x0220211
@@ -84,25 +84,10 @@ word-test : T (every (λ i. eqb (leftOver (2 ^ i)) (fecFrom 0 (digits 64 (2 ^ i)
 unfolding every leftOver product quotient rounds ups downs shifts remainderFrom digits next scale timesX
 word-test = tt
 
-of-word : (word : ℕ) → word < 2 ^ 64 → leftOver word ≡ fecFrom 0 (digits 64 word)
-of-word = agree-test leftOver (λ x. fecFrom 0 (digits 64 x)) leftOver-additive (from-digits 26 0x0220211 64 0 0) 64 word-test
-
 -- at each bit of a remainder, which the code adds to the word's top
 start-test : T (every (λ i. eqb (leftOver (2 ^ i * 2 ^ 38)) (fecFrom (2 ^ i) (digits 64 0))) 26)
 unfolding every leftOver product quotient rounds ups downs shifts remainderFrom digits next scale timesX
 start-test = tt
-
-of-start : (r : ℕ) → r < 2 ^ 26 → leftOver (r * 2 ^ 38) ≡ fecFrom r (digits 64 0)
-of-start =
-    agree-test (λ r. leftOver (r * 2 ^ 38)) (λ r. fecFrom r (digits 64 0)) (after leftOver (λ r. r * 2 ^ 38) leftOver-additive (shift-up 38))
-    (λ r s. from-digits 26 0x0220211 64 r s 0 0) 26 start-test
-
-of-both : (r word : ℕ) → r < 2 ^ 26 → word < 2 ^ 64 → leftOver (bitXor word (r * 2 ^ 38)) ≡ fecFrom r (digits 64 word)
-of-both r word h l =
-    leftOver-additive word (r * 2 ^ 38)
-    ∙ ap₂ bitXor (of-word word l) (of-start r h)
-    ∙ sym (from-digits 26 0x0220211 64 0 r word 0)
-    ∙ ap (λ (x : ℕ). fecFrom r (digits 64 x)) (xor-zero-r word)
 
 -- as the code writes it out, which casts r first
 pub left-over : (r word wide : ℕ) → r < 2 ^ 26 → word < 2 ^ 64 → wide ≡ r
@@ -115,12 +100,9 @@ pub left-over : (r word wide : ℕ) → r < 2 ^ 26 → word < 2 ^ 64 → wide �
 unfolding leftOver product quotient rounds ups downs shifts
 left-over r word wide h l e =
     ap (λ (x : ℕ). product (bitXor word x) % 2 ^ 26) (ap (λ (x : ℕ). x * 2 ^ 38 % 2 ^ 64) e ∙ shl-exact 26 38 64 h (lit≤ tt))
-    ∙ of-both r word h l
+    ∙ divides 26 0x0220211 38 leftOver leftOver-additive word-test start-test r word h l
 
 -- ---- word by word
-
-pub fecFrom-lt : (bits : List ℕ) → fecFrom 0 bits < 2 ^ 26
-fecFrom-lt bits = from-lt 26 0x0220211 (lit< tt) 0 bits (lit< tt)
 
 module _ (w g : ℕ) where
   -- the bits before place a, and then n more
@@ -137,27 +119,21 @@ module _ (w g : ℕ) where
       ap₂ (remainderFrom w g) p (ap (digits 64) e ∙ digits-number f d k 64)
       ∙ before f (64 * i) 64 k (64 * (i + 1)) at (omega arith)
 
-  -- the words of a list: the next, the next octet, and all
+  -- the words of a list: the next, and all
   module _ (words : List ℕ) where
     pub word-next : (i s : ℕ) → getD words i 0 < 2 ^ 64 → s ≡ remainderFrom w g 0 (run (wordBit words) 0 (64 * i))
         → remainderFrom w g s (digits 64 (getD words i 0)) ≡ remainderFrom w g 0 (run (wordBit words) 0 (64 * (i + 1)))
     word-next i s h p = word-more (wordBit words) (wordBit-lt words) i (64 * i) s (getD words i 0) refl p (sym (number-word words i h))
 
-    pub octet-next : (i s : ℕ) → s ≡ remainderFrom w g 0 (run (wordBit words) 0 (8 * i))
-        → remainderFrom w g s (digits 8 (getD words (i / 8) 0 / 2 ^ (56 - 8 * (i % 8)) % 2 ^ 8)) ≡ remainderFrom w g 0 (run (wordBit words) 0 (8 * (i + 1)))
-    octet-next i s p =
-        ap₂ (remainderFrom w g) p (word-octet words i)
-        ∙ before (wordBit words) (8 * i) 8 (8 * i) (8 * (i + 1)) refl (omega arith)
-
     pub words-all : remainderFrom w g 0 (run (wordBit words) 0 (64 * length words)) ≡ remainder w g (bitsOf (octetsIn words))
     unfolding remainder
     words-all = ap (remainderFrom w g 0) (sym (bitsOf-octetsIn words))
 
--- the octets that fill no word
-pub words-rest : (octets : List ℕ) (count s : ℕ) → 8 * count ≤ length octets → s ≡ fecFrom 0 (run (bitAt octets) 0 (64 * count))
-    → fecFrom s (run (bitAt octets) (8 * (8 * count)) (8 * (length octets - 8 * count))) ≡ remainder 26 0x0220211 (bitsOf octets)
-unfolding remainder
-words-rest octets count s h p =
-    ap (λ (r : ℕ). fecFrom r (run (bitAt octets) (8 * (8 * count)) (8 * (length octets - 8 * count)))) p
-    ∙ before 26 0x0220211 (bitAt octets) (64 * count) (8 * (length octets - 8 * count)) (8 * (8 * count)) (8 * (length octets - 0)) (omega arith) (omega arith)
-    ∙ ap (remainderFrom 26 0x0220211 0) (from-start octets)
+  -- the octets that fill no word
+  pub words-rest : (octets : List ℕ) (count s : ℕ) → 8 * count ≤ length octets → s ≡ remainderFrom w g 0 (run (bitAt octets) 0 (64 * count))
+      → remainderFrom w g s (run (bitAt octets) (8 * (8 * count)) (8 * (length octets - 8 * count))) ≡ remainder w g (bitsOf octets)
+  unfolding remainder
+  words-rest octets count s h p =
+      ap (λ (r : ℕ). remainderFrom w g r (run (bitAt octets) (8 * (8 * count)) (8 * (length octets - 8 * count)))) p
+      ∙ before (bitAt octets) (64 * count) (8 * (length octets - 8 * count)) (8 * (8 * count)) (8 * (length octets - 0)) (omega arith) (omega arith)
+      ∙ ap (remainderFrom w g 0) (from-start octets)

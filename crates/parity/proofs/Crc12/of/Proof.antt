@@ -1,23 +1,35 @@
 -- `parity::Crc12::of` meets its contract.
 -- Assumes nothing.
 use borrow.Author.Needs.{needs}
-use Prim.Native.Nat.{_-_}
-use mathlib.Core.Path.{ap, _∙_}
-use Rattle.bits.proofs.Runs.{bitsFrom, from-start}
-use Rattle.polynomial.specs.Remainder.{remainder}
-use Rattle.polynomial.proofs.Remainder.{from-zero}
+use Prim.Native.Nat.{_*_, _/_, _^_}
+use mathlib.Core.Bool.{false}
+use native.Mathlib.Omega.{arith}
+use lib.ListN.{length}
+use lib.Pow.{pow-pos}
+use Rattle.bits.specs.Order.{bitAt, run}
+use Rattle.polynomial.proofs.Remainder.{from-lt}
+use Rattle.polynomial.proofs.Words.{words-rest}
 use Rattle.parity.specs.Codeword.{parityOf}
+use Rattle.parity.proofs.Codeword.{code-fits}
 use Rattle.parity.proofs.Crc12.of.Statement.{statement}
 use Rattle.parity.proofs.Crc12.of.Tie as tie
 
+words-requires : tie.Need-words-requires
+words-requires c κs = search needs
+
+mul-rest : tie.Need-mul-rest
+mul-rest c = search needs
+
 rest-requires : tie.Need-rest-requires
-rest-requires c κs = search needs
+rest-requires c κs =
+    let octets = c .before .before .args .octets .now in
+    (search needs, search needs, rw (c .words .ensures) (from-lt 12 0x30F (code-fits false) 0 (run (bitAt octets) 0 (64 * (length octets / 8))) (pow-pos 12)), omega arith)
 
 returns : tie.Need-returns
 unfolding parityOf
 returns c =
-    let octets = c .before .before .args .octets .now in
-    c .rest .ensures ∙ from-zero 12 0x30F (bitsFrom octets 0) ∙ ap (remainder 12 0x30F) (from-start octets)
+    let octets = c .before .before .before .args .octets .now in
+    rw (c .rest .ensures) (words-rest 12 0x30F octets (length octets / 8) (c .before .words .result) (omega arith) (c .before .words .ensures))
 
 pub of-spec : {M : Type 1} → statement M
-of-spec = tie.close (tie.spec rest-requires returns)
+of-spec = tie.close (tie.spec words-requires mul-rest rest-requires returns)

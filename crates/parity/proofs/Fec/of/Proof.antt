@@ -1,12 +1,16 @@
 -- `parity::Fec::of` meets its contract.
 -- Assumes nothing.
 use borrow.Author.Needs.{needs}
-use Prim.Native.Nat.{_*_, _/_}
+use Prim.Native.Nat.{_*_, _/_, _^_}
+use mathlib.Core.Bool.{true}
 use native.Mathlib.Omega.{arith}
 use lib.ListN.{length}
+use lib.Pow.{pow-pos}
 use Rattle.bits.specs.Order.{bitAt, run}
-use Rattle.polynomial.proofs.Words.{fecFrom-lt, words-rest}
+use Rattle.polynomial.proofs.Remainder.{from-lt}
+use Rattle.polynomial.proofs.Words.{words-rest}
 use Rattle.parity.specs.Codeword.{parityOf}
+use Rattle.parity.proofs.Codeword.{code-fits}
 use Rattle.parity.proofs.Fec.of.Statement.{statement}
 use Rattle.parity.proofs.Fec.of.Tie as tie
 
@@ -19,13 +23,13 @@ mul-rest c = search needs
 rest-requires : tie.Need-rest-requires
 rest-requires c κs =
     let octets = c .before .before .args .octets .now in
-    (search needs, search needs, rw (c .words .ensures) (fecFrom-lt (run (bitAt octets) 0 (64 * (length octets / 8)))), omega arith)
+    (search needs, search needs, rw (c .words .ensures) (from-lt 26 0x0220211 (code-fits true) 0 (run (bitAt octets) 0 (64 * (length octets / 8))) (pow-pos 26)), omega arith)
 
 returns : tie.Need-returns
 unfolding parityOf
 returns c =
     let octets = c .before .before .before .args .octets .now in
-    rw (c .rest .ensures) (words-rest octets (length octets / 8) (c .before .words .result) (omega arith) (c .before .words .ensures))
+    rw (c .rest .ensures) (words-rest 26 0x0220211 octets (length octets / 8) (c .before .words .result) (omega arith) (c .before .words .ensures))
 
 pub of-spec : {M : Type 1} → statement M
 of-spec = tie.close (tie.spec words-requires mul-rest rest-requires returns)

@@ -7,19 +7,24 @@ use native.Mathlib.Omega.{arith}
 use Rattle.bits.specs.Order.{bitAt, run}
 use Rattle.bits.proofs.Numbers.{bitAt-lt}
 use Rattle.polynomial.specs.Remainder.{remainderFrom}
-use Rattle.polynomial.proofs.Remainder.{from-none}
-use Rattle.polynomial.proofs.Words.{fecFrom-lt, word-more}
+use Rattle.polynomial.proofs.Remainder.{from-none, from-lt}
+use Rattle.polynomial.proofs.Words.{word-more}
+use Rattle.parity.specs.Codeword.{Code, codeOf}
+use Rattle.parity.proofs.Codeword.{code-fits}
+use lib.Pow.{pow-pos}
 use Rattle.parity.proofs.word.words.Statement.{statement}
 use Rattle.parity.proofs.word.words.Tie as tie
 
 abbrev Inv-loop : tie.InvT-loop
-Inv-loop octets count s₀ i₀ s i = (i ≤ count) × (s ≡ remainderFrom 26 0x0220211 0 (run (bitAt octets) 0 (64 * i)))
+Inv-loop fec octets count s₀ i₀ s i = (i ≤ count) × (s ≡ remainderFrom (codeOf fec .width) (codeOf fec .lower) 0 (run (bitAt octets) 0 (64 * i)))
 
 abbrev μ-loop : tie.MeasureT-loop
-μ-loop octets count s₀ i₀ s i = count - i
+μ-loop fec octets count s₀ i₀ s i = count - i
 
 loop-holds : tie.Need-loop-holds Inv-loop μ-loop
-loop-holds c = (search needs, sym (from-none 26 0x0220211 0 (bitAt (c .before .args .octets .now)) 0))
+loop-holds c =
+    let C = codeOf (c .before .args .fec) in
+    (search needs, sym (from-none (C .width) (C .lower) 0 (bitAt (c .before .args .octets .now)) 0))
 
 mul-word-at : tie.Need-mul-word-at Inv-loop μ-loop
 mul-word-at c = search needs
@@ -30,7 +35,9 @@ word-at-requires c κs = search needs
 next-word-requires : tie.Need-next-word-requires Inv-loop μ-loop
 next-word-requires c κs =
     let l = c .before .before .loop in
-    rw (l .inv .1) (fecFrom-lt (run (bitAt (c .before .before .before .before .args .octets .now)) 0 (64 * l .i)))
+    let a = c .before .before .before .before .args in
+    let C = codeOf (a .fec) in
+    rw (l .inv .1) (from-lt (C .width) (C .lower) (code-fits (a .fec)) 0 (run (bitAt (a .octets .now)) 0 (64 * l .i)) (pow-pos (C .width)))
 
 add-i : tie.Need-add-i Inv-loop μ-loop
 add-i c = search needs
@@ -42,13 +49,15 @@ loop-again : tie.Need-loop-again Inv-loop μ-loop
 loop-again c =
     let l = c .before .before .before .loop in
     let octets = c .before .before .before .before .before .args .octets .now in
-    (search needs, c .next-word .ensures ∙ word-more 26 0x0220211 (bitAt octets) (bitAt-lt octets) (l .i) (8 * (8 * l .i)) (l .s) (c .before .word-at .result) (omega arith) (l .inv .1) (c .before .word-at .ensures))
+    let C = codeOf (c .before .before .before .before .before .args .fec) in
+    (search needs, c .next-word .ensures ∙ word-more (C .width) (C .lower) (bitAt octets) (bitAt-lt octets) (l .i) (8 * (8 * l .i)) (l .s) (c .before .word-at .result) (omega arith) (l .inv .1) (c .before .word-at .ensures))
 
 returns : tie.Need-returns Inv-loop μ-loop
 returns c =
     let l = c .before .loop in
     let e : l .i ≡ c .before .before .before .args .count = omega arith in
-    l .inv .1 ∙ ap (λ (i : ℕ). remainderFrom 26 0x0220211 0 (run (bitAt (c .before .before .before .args .octets .now)) 0 (64 * i))) e
+    let C = codeOf (c .before .before .before .args .fec) in
+    l .inv .1 ∙ ap (λ (i : ℕ). remainderFrom (C .width) (C .lower) 0 (run (bitAt (c .before .before .before .args .octets .now)) 0 (64 * i))) e
 
 pub words-spec : {M : Type 1} → statement M
 words-spec =
