@@ -24,10 +24,6 @@ pub digit-lt : (n v j : ℕ) → digit n v j < 2
 unfolding digit
 digit-lt n v j = mod-lt (v / 2 ^ (n - 1 - j)) (zero-lt-suc 1)
 
-pub digit-is : (n v j : ℕ) → digit n v j ≡ v / 2 ^ (n - 1 - j) % 2
-unfolding digit
-digit-is n v j = refl
-
 module _ (f : ℕ → ℕ) (k : ℕ) where
   -- no bits, one more, and two
   pub number-none : 0 ≡ number f k 0

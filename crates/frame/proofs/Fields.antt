@@ -159,6 +159,11 @@ fec-up : (p : ℕ) → p < 2 ^ 32 → joined up fecMoves p ≡ parityShare fecRo
 unfolding every parityShare number
 fec-up = agree-test (joined up fecMoves) (parityShare fecRow) (joined-xor up up-xor fecMoves) (parityShare-xor fecRow) 32 tt
 
+-- there is no command in it
+fec-none-up : (c : ℕ) → c < 2 ^ 32 → 0 ≡ commandShare fecRow c
+unfolding every commandShare number
+fec-none-up = agree-test (joined up []) (commandShare fecRow) (joined-xor up up-xor []) (commandShare-xor fecRow) 32 tt
+
 pub crc12-down : (v : ℕ) → v < 2 ^ 32 → joined down crc12Moves v ≡ readParity crc12Row (digit 32 v)
 unfolding every readParity number digit position key
 crc12-down =
@@ -190,7 +195,7 @@ module _ (p c : ℕ) (hp : p < 2 ^ 32) (hc : c < 2 ^ 32) (b : Bool) where
   pub crc12-word : bitXor (bitXor (joined up crc12Moves p) (joined up commandMoves c)) (bitXor (boolByte b * 2 ^ 9 % 2 ^ 32) 0x11111501) ≡ syncWord crc12Row p c (bitOf b)
   crc12-word = ap₂ bitXor (ap₂ bitXor (crc12-up p hp) (command-up c hc)) (crc12-rest b) ∙ sym (syncWord-parts crc12Row p c (bitOf b))
 
-  -- there is no command in it
   pub fec-word : bitXor (joined up fecMoves p) (bitXor (boolByte b * 2 ^ 9 % 2 ^ 32) 1) ≡ syncWord fecRow p c (bitOf b)
-  unfolding commandShare number
-  fec-word = ap₂ bitXor (fec-up p hp ∙ sym (xor-zero-r (parityShare fecRow p))) (fec-rest b) ∙ sym (syncWord-parts fecRow p c (bitOf b))
+  fec-word =
+      ap₂ bitXor (sym (xor-zero-r (joined up fecMoves p)) ∙ ap₂ bitXor (fec-up p hp) (fec-none-up c hc)) (fec-rest b)
+      ∙ sym (syncWord-parts fecRow p c (bitOf b))

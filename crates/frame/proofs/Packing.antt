@@ -12,7 +12,7 @@ use lib.Dec.{eqb, lit≤}
 use lib.Pow.{pow-add, high, low, field, mod-pow-add, mod-mod-pow, shl-exact, shl-lt, shl-shr, shr-lt, shr-shr}
 use Rattle.bits.specs.Choice.{pick}
 use Rattle.bits.specs.Order.{bitAt, digit, number, octetsOf}
-use Rattle.bits.proofs.Numbers.{digit-is, number-more, number-two, number-ones, number-split, number-lt, number-low, number-high, number-ext, number-and, number-xor, digit-number, number-digit}
+use Rattle.bits.proofs.Numbers.{digit-at, number-more, number-two, number-ones, number-split, number-lt, number-low, number-high, number-ext, number-and, number-xor, digit-number, number-digit}
 use Rattle.frame.specs.Headers.{value, carries, spoilt, headerOf}
 use Rattle.frame.specs.Lane.{blockWidth, laneOctets, headerPlace, dataPlace, headerAt, syncBit, spoiltBit, dataBit, dataOctets, blockBit, multiblockBit, multiblock}
 use Rattle.frame.proofs.Lane.{header-lt, multiblockBit-lt, multiblock-at, block-data}
@@ -153,7 +153,7 @@ octets-read lane b e = ap (λ (x : ℕ). octetsOf (dataBit 0 lane 0) (8 * x)) e
 -- the header that carries bit b of a sync word, found by a shift
 module _ (sync b : ℕ) where
   sync-bit : digit 32 sync b ≡ bitAnd (sync / 2 ^ (31 - b)) 1
-  sync-bit = digit-is 32 sync b ∙ sym (and-mask (sync / 2 ^ (31 - b)) 1)
+  sync-bit = digit-at 32 sync b ∙ sym (and-mask (sync / 2 ^ (31 - b)) 1)
 
   pub header-of-one : bitAnd (sync / 2 ^ (31 - b)) 1 ≡ 1 → headerOf (digit 32 sync b) ≡ 1
   unfolding headerOf

@@ -12,7 +12,7 @@ use lib.Dec.{T, ltb, leb, eqb, ltb→lt, eqb→eq}
 use lib.ListN.{length, getD}
 use Rattle.bits.specs.Choice.{pick}
 use Rattle.bits.specs.Order.{number, digit}
-use Rattle.bits.proofs.Numbers.{number-lt, number-ext, number-whole, digit-number, low-digit}
+use Rattle.bits.proofs.Numbers.{digit-at, number-none, number-lt, number-ext, number-whole, digit-number, low-digit}
 use Rattle.bits.proofs.Tests.{left, right, every, every-at}
 use Rattle.frame.specs.Modes.{Field, parity, command, mark, fixed, Row, crc12Row, fecRow, row}
 use Rattle.frame.specs.SyncWord.{held, syncWord, key, position, readParity, readCommand, markedCommand}
@@ -273,8 +273,10 @@ module _ (R : Row) (bits bad : ℕ → ℕ) where
 
 -- a mode without commands reads 0
 pub no-command : (R : Row) → R .commandWidth ≡ 0 → (bits : ℕ → ℕ) → readCommand R bits ≡ 0
-unfolding readCommand number
-no-command R none bits = ap (number (λ j. bits (place R (command (R .commandWidth - 1 - j)))) 0) none
+unfolding readCommand
+no-command R none bits =
+    let f : ℕ → ℕ = λ j. bits (place R (command (R .commandWidth - 1 - j))) in
+    ap (number f 0) none ∙ sym (number-none f 0)
 
 pub no-marked-command : (R : Row) → R .commandWidth ≡ 0 → (bits bad : ℕ → ℕ) → markedCommand R bits bad ≡ 0
 unfolding markedCommand
@@ -290,9 +292,10 @@ parityPlace R r = place R (parity (R .code .width - 1 - r))
 -- a bit of the parity read is what is read there
 pub parity-bit : (R : Row) (bits : ℕ → ℕ) → ((t : ℕ) → bits t < 2) → (r : ℕ) → r < R .code .width
     → readParity R bits / 2 ^ (R .code .width - 1 - r) % 2 ≡ bits (parityPlace R r)
-unfolding readParity digit
+unfolding readParity
 parity-bit R bits d r h =
-    digit-number (λ j. bits (parityPlace R j)) (λ j. d (parityPlace R j)) 0 (R .code .width) r h ∙ ap (λ (x : ℕ). bits (parityPlace R x)) (zero-add r)
+    sym (digit-at (R .code .width) (readParity R bits) r)
+    ∙ digit-number (λ j. bits (parityPlace R j)) (λ j. d (parityPlace R j)) 0 (R .code .width) r h ∙ ap (λ (x : ℕ). bits (parityPlace R x)) (zero-add r)
 
 module _ (R : Row) (s : Stands R) where
   pub parityPlace-lt : (r : ℕ) → r < R .code .width → parityPlace R r < 32
