@@ -1,18 +1,17 @@
--- What a fresh receiver's lists say of an accepted capture: the text made of them is the text of the capture. Document 01, "Capture and
+-- What a fresh receiver's lists say of a capture's lane: the text made of them is the text of the capture. Document 01, "Capture and
 -- listing". Assumes nothing.
 use mathlib.Core.Path.{_≡_, refl, sym, ap, ap₂, _∙_}
 use mathlib.Core.Bool.{Bool, true, false}
 use mathlib.Core.List.{List, [], _∷_, _++_, append-assoc, append-nil}
 use Prim.Native.Nat.{ℕ, zero, suc, _+_, _-_, _*_, _/_, _%_, _≤_, _<_}
 use native.Mathlib.Nat.{add-zero, zero-add, add-suc}
-use native.Mathlib.Numerals.{add-one}
 use native.Mathlib.Omega.{arith}
-use borrow.Author.Tests.{eq-eqb, ne-eqb}
+use native.Mathlib.Decide.{decLe}
+use borrow.Author.Tests.{eq-eqb, ne-eqb, le-leb, lt-leb}
 use lib.ListN.{length, getD, take, drop}
 use lib.Seq.{take-suc, take-length, length-take-le}
 use Rattle.bits.specs.Order.{bitAt, laid}
-use Rattle.bits.proofs.Laid.{length-laid}
-use Rattle.bits.proofs.Writing.{laid-within}
+use Rattle.bits.proofs.Laid.{taken-back}
 use Rattle.frame.specs.Modes.{row}
 use Rattle.frame.specs.Lane.{laneOctets}
 use Rattle.frame.proofs.Sizes.{row-octets}
@@ -26,14 +25,21 @@ use Rattle.receiver.specs.Entry.{done as kept}
 use Rattle.receiver.specs.Turn.{Room}
 use Rattle.receiver.proofs.Buffers.{listed-length}
 use Rattle.receiver.proofs.Afresh.{all-received, all-but-one, listed-at}
+use Rattle.text.specs.declared.Written.{Written}
+use Rattle.text.specs.Text.{headLine, releaseLine}
+use Rattle.text.specs.Writing.{linesOf, written}
+use Rattle.text.specs.Writing.{textOf as writtenText}
+use Rattle.text.specs.Writing.{Done as Answer}
+use Rattle.text.specs.Writing.{done as answer}
+use Rattle.text.proofs.Releases.{no-lines, lines-next, text-is}
+use Rattle.text.proofs.Refusals.{whole, none}
 use Rattle.capture.specs.declared.Listed.{Listed}
 use Rattle.capture.specs.Form.{modeOf, extentOf, laneOf, refusalOf}
-use Rattle.capture.specs.Text.{headLine, releaseLine}
-use Rattle.capture.specs.Listing.{receivedIn, releasedFrom, lines, textOf, Done, done, listed}
-use Rattle.capture.specs.Writing.{linesOf, written}
-use Rattle.capture.proofs.Refusals.{Accepted, lane-length}
+use Rattle.capture.specs.Listing.{receivedIn, releasedFrom, lines, textOf, Done, done, laidOver, listed}
+use Rattle.capture.specs.Lane.{releasesOf, Lists, laneText}
+use Rattle.capture.proofs.Refusals.{lane-length}
 
--- ---- the lines of some releases, from lists that begin with theirs
+-- ---- the lines of some releases, from lists of their statuses, places and patterns
 
 lines-last : (k : ℕ) (out : List Release) (r : Release) → lines k (out ++ (r ∷ [])) ≡ lines k out ++ releaseLine (k + length out) (r .status) (r .place) (r .pattern)
 unfolding lines
@@ -46,26 +52,115 @@ lines-last k (x ∷ out) r =
 nothing : Release
 nothing = record { octets = []; status = 0; command = 0; place = 0; pattern = 0 }
 
-module _ (out : List Release) (s p q : List ℕ) where
-  read : (f : Release → ℕ) (old : List ℕ) (k : ℕ) → k < length out → getD (laid (listedBy f out) old) k 0 ≡ f (getD out k nothing)
-  read f old k h = laid-within (listedBy f out) old k (omega (arith, listed-length f out)) ∙ listed-at f out k nothing h
+module _ (out : List Release) where
+  abbrev statuses : List ℕ
+  statuses = listedBy (λ (r : Release). r .status) out
 
-  first-lines : (k : ℕ) → k ≤ length out
-      → linesOf k (laid (listedBy (λ (r : Release). r .status) out) s) (laid (listedBy (λ (r : Release). r .place) out) p) (laid (listedBy (λ (r : Release). r .pattern) out) q)
-      ≡ lines 0 (take k out)
-  unfolding linesOf lines
-  first-lines zero h = refl
+  abbrev places : List ℕ
+  places = listedBy (λ (r : Release). r .place) out
+
+  abbrev patterns : List ℕ
+  patterns = listedBy (λ (r : Release). r .pattern) out
+
+  first-lines : (k : ℕ) → k ≤ length out → linesOf k statuses places patterns ≡ lines 0 (take k out)
+  unfolding lines
+  first-lines zero h = no-lines statuses places patterns
   first-lines (suc k) h =
       let r = getD out k nothing in
       let here : length (take k out) ≡ k = length-take-le k out (omega arith) in
-      rw (first-lines k (omega arith), read (λ (r : Release). r .status) s k (omega arith), read (λ (r : Release). r .place) p k (omega arith), read (λ (r : Release). r .pattern) q k (omega arith))
+      ap (λ (x : ℕ). linesOf x statuses places patterns) {x = suc k} {y = k + 1} (omega arith)
+      ∙ lines-next k statuses places patterns
+      ∙ rw (first-lines k (omega arith), listed-at (λ (r : Release). r .status) out k nothing (omega arith), listed-at (λ (r : Release). r .place) out k nothing (omega arith), listed-at (λ (r : Release). r .pattern) out k nothing (omega arith))
       (ap (λ (x : ℕ). lines 0 (take k out) ++ releaseLine x (r .status) (r .place) (r .pattern)) (sym here ∙ sym (zero-add (length (take k out))))
       ∙ sym (lines-last 0 (take k out) r)
       ∙ ap (lines 0) (sym (take-suc out k nothing (omega arith))))
 
-  pub all-lines : linesOf (length out) (laid (listedBy (λ (r : Release). r .status) out) s) (laid (listedBy (λ (r : Release). r .place) out) p) (laid (listedBy (λ (r : Release). r .pattern) out) q)
-      ≡ lines 0 out
+  all-lines : linesOf (length out) statuses places patterns ≡ lines 0 out
   all-lines = first-lines (length out) (omega arith) ∙ ap (lines 0) (take-length out)
+
+  text-of-lists : (mode E received : ℕ) → writtenText mode E received statuses places patterns ≡ headLine mode E received (length out) ++ lines 0 out
+  text-of-lists mode E received =
+      text-is mode E received statuses places patterns
+      ∙ ap (λ (x : ℕ). headLine mode E received x ++ linesOf x statuses places patterns) (listed-length (λ (r : Release). r .status) out)
+      ∙ ap (λ (x : List ℕ). headLine mode E received (length out) ++ x) all-lines
+
+-- ---- what is received of a lane
+
+pub releases-are : (mode : ℕ) (lane : List ℕ) → run (row mode) (bitAt lane) fresh (length lane / 264) .out ≡ releasesOf mode lane
+unfolding releasesOf
+releases-are mode lane = ap (λ (x : ℕ). run (row mode) (bitAt lane) fresh (length lane / x) .out) (sym (row-octets mode))
+
+module _ (mode : ℕ) (lane : List ℕ) (known : mode ≤ 1) (entire : length lane % 264 ≡ 0) (short : length lane ≤ 63360) (o s c p q o′ s′ c′ p′ q′ : List ℕ) (state : Receiver) (r : Received)
+    (es : state ≡ fresh) (lo : length o ≡ 61440) (ls : length s ≡ 240) (lc : length c ≡ 240) (lp : length p ≡ 240) (lq : length q ≡ 240) (e : kept r o′ s′ c′ p′ q′ ≡ entry mode state lane o s c p q) where
+  abbrev out : List Release
+  out = run (row mode) (bitAt lane) fresh (length lane / 264) .out
+
+  is-run : kept r o′ s′ c′ p′ q′ ≡ laidOut (run (row mode) (bitAt lane) fresh (length lane / 264)) o s c p q
+  is-run =
+      e ∙ ap (λ (x : Receiver). entry mode x lane o s c p q) es ∙ all-received mode lane o s c p q known entire (omega arith)
+      (record { octets-fit = omega arith; statuses-fit = omega arith; commands-fit = omega arith; places-fit = omega arith; patterns-fit = omega arith })
+
+  number : r .count ≡ length out
+  number = ap (λ (x : Kept). x .answer .count) is-run
+
+  taken : (f : Release → ℕ) (old new : List ℕ) → new ≡ laid (listedBy f out) old → take (r .count) new ≡ listedBy f out
+  taken f old new h = rw (h, number, ← listed-length f out) (taken-back (listedBy f out) old)
+
+  pub lists : Lists (releasesOf mode lane) (r .count) s′ p′ q′
+  lists = rw (← releases-are mode lane) (record {
+    few = omega (arith, number, all-but-one mode (bitAt lane) (length lane / 264));
+    number = number;
+    statuses = taken (λ (r : Release). r .status) s s′ (ap (λ (x : Kept). x .statuses) is-run);
+    places = taken (λ (r : Release). r .place) p p′ (ap (λ (x : Kept). x .places) is-run);
+    patterns = taken (λ (r : Release). r .pattern) q q′ (ap (λ (x : Kept). x .patterns) is-run);
+  })
+
+-- ---- the text of a lane, written from such lists
+
+module _ {out : List Release} {count : ℕ} {s p q : List ℕ} (l : Lists out count s p q) where
+  counted : (f : Release → ℕ) (x : List ℕ) → take count x ≡ listedBy f out → count ≡ length (take count x)
+  counted f x e = l .number ∙ sym (ap length e ∙ listed-length f out)
+
+  pub statuses-counted : count ≡ length (take count s)
+  statuses-counted = counted (λ (r : Release). r .status) s (l .statuses)
+
+  pub places-counted : count ≡ length (take count p)
+  places-counted = counted (λ (r : Release). r .place) p (l .places)
+
+  pub patterns-counted : count ≡ length (take count q)
+  patterns-counted = counted (λ (r : Release). r .pattern) q (l .patterns)
+
+abbrev listing-of : Answer → Done
+listing-of d = done (record { refusal = d .answer .refusal; count = d .answer .count }) (d .text)
+
+module _ (out : List Release) (few : length out ≤ 240) (mode E received : ℕ) (text : List ℕ) where
+  few-listed : length (statuses out) ≤ 240
+  few-listed = omega (arith, few, listed-length (λ (r : Release). r .status) out)
+
+  as-many : (f g : Release → ℕ) → length (listedBy f out) ≡ length (listedBy g out)
+  as-many f g = listed-length f out ∙ sym (listed-length g out)
+
+  all-listed : listing-of (written mode E received (statuses out) (places out) (patterns out) text) ≡ laidOver (writtenText mode E received (statuses out) (places out) (patterns out)) text
+  unfolding laidOver
+  all-listed = by (decLe (length new) (length text))
+    where
+      new : List ℕ
+      new = writtenText mode E received (statuses out) (places out) (patterns out)
+
+      by : Dec (length new ≤ length text) → listing-of (written mode E received (statuses out) (places out) (patterns out) text) ≡ laidOver new text
+      by (yes h) = rw (le-leb (length new) (length text) h) (ap listing-of (sym (whole mode E received (statuses out) (places out) (patterns out) text few-listed (as-many _ _) (as-many _ _) h)))
+      by (no n) = rw (lt-leb (length new) (length text) (omega arith)) (ap listing-of (sym (none mode E received (statuses out) (places out) (patterns out) text few-listed (as-many _ _) (as-many _ _) (omega arith))))
+
+pub lane-listed : (mode E received count : ℕ) (lane s p q text text′ : List ℕ) (r : Written) → received ≡ length lane / 264 → Lists (releasesOf mode lane) count s p q
+    → answer r text′ ≡ written mode E received (take count s) (take count p) (take count q) text
+    → done (record { refusal = r .refusal; count = r .count }) text′ ≡ laidOver (laneText mode E lane) text
+unfolding laneText
+lane-listed mode E received count lane s p q text text′ r n l e =
+    let out = releasesOf mode lane in
+    ap listing-of e
+    ∙ rw (l .statuses, l .places, l .patterns) (all-listed out (omega (arith, l .few, l .number)) mode E received text)
+    ∙ ap (λ (x : List ℕ). laidOver x text) (text-of-lists out mode E received)
+    ∙ ap (λ (x : ℕ). laidOver (headLine mode E x (length out) ++ lines 0 out) text) (n ∙ ap (λ (x : ℕ). length lane / x) (sym (row-octets mode)))
 
 -- ---- a whole capture
 
@@ -77,61 +172,11 @@ pub released-is : (capture : List ℕ) → length (releasedFrom capture) ≡ rec
 unfolding releasedFrom
 released-is capture = all-but-one (modeOf capture) (bitAt (laneOf capture)) (receivedIn capture)
 
--- how many were released, and lists that begin with theirs
-pub record Lists (capture : List ℕ) (count : ℕ) (s p q s′ p′ q′ : List ℕ) : Type 0 where
-  pub number : count ≡ length (releasedFrom capture)
-  pub statuses : s′ ≡ laid (listedBy (λ (r : Release). r .status) (releasedFrom capture)) s
-  pub places : p′ ≡ laid (listedBy (λ (r : Release). r .place) (releasedFrom capture)) p
-  pub patterns : q′ ≡ laid (listedBy (λ (r : Release). r .pattern) (releasedFrom capture)) q
-
-module _ (capture : List ℕ) (ok : Accepted capture) (mode : ℕ) (em : mode ≡ modeOf capture) (lane : List ℕ) (el : lane ≡ laneOf capture) where
-  long : length lane ≡ length capture - 11
-  long = ap length el ∙ lane-length capture
-
-  module _ (o s c p q o′ s′ c′ p′ q′ : List ℕ) (state : Receiver) (r : Received) (es : state ≡ fresh) (lo : length o ≡ 61440) (ls : length s ≡ 240) (lc : length c ≡ 240) (lp : length p ≡ 240) (lq : length q ≡ 240)
-      (e : kept r o′ s′ c′ p′ q′ ≡ entry mode state lane o s c p q) where
-    few : length lane / 264 ≤ 240
-    few = omega (arith, long, ok .short)
-
-    is-run : kept r o′ s′ c′ p′ q′ ≡ laidOut (run (row mode) (bitAt lane) fresh (length lane / 264)) o s c p q
-    is-run =
-        e ∙ ap (λ (x : Receiver). entry mode x lane o s c p q) es ∙ all-received mode lane o s c p q (omega (arith, em, ok .mode)) (ap (λ (x : ℕ). x % 264) long ∙ ok .whole) few
-        (record { octets-fit = omega (arith, few); statuses-fit = omega (arith, few); commands-fit = omega (arith, few); places-fit = omega (arith, few); patterns-fit = omega (arith, few) })
-
-    same : run (row mode) (bitAt lane) fresh (length lane / 264) .out ≡ releasedFrom capture
-    unfolding releasedFrom
-    same =
-        rw (em, el) (ap (λ (x : ℕ). run (row (modeOf capture)) (bitAt (laneOf capture)) fresh x .out) (ap (λ (x : ℕ). x / 264) (lane-length capture) ∙ sym (received-is capture)))
-
-    pub lists : Lists capture (r .count) s p q s′ p′ q′
-    lists = record {
-      number = ap (λ (x : Kept). x .answer .count) is-run ∙ ap length same;
-      statuses = ap (λ (x : Kept). x .statuses) is-run ∙ ap (λ (x : List Release). laid (listedBy (λ (r : Release). r .status) x) s) same;
-      places = ap (λ (x : Kept). x .places) is-run ∙ ap (λ (x : List Release). laid (listedBy (λ (r : Release). r .place) x) p) same;
-      patterns = ap (λ (x : Kept). x .patterns) is-run ∙ ap (λ (x : List Release). laid (listedBy (λ (r : Release). r .pattern) x) q) same;
-    }
-
--- there is a place in each list for each release
-pub listed-all : (capture : List ℕ) (count : ℕ) (s p q s′ p′ q′ : List ℕ) → Accepted capture → length s ≡ 240 → length p ≡ 240 → length q ≡ 240 → Lists capture count s p q s′ p′ q′
-    → (count ≤ 240) × (count ≤ length s′) × (count ≤ length p′) × (count ≤ length q′)
-listed-all capture count s p q s′ p′ q′ ok ls lp lq l = (few, there (λ (r : Release). r .status) s s′ ls (l .statuses), there (λ (r : Release). r .place) p p′ lp (l .places), there (λ (r : Release). r .pattern) q q′ lq (l .patterns))
-  where
-    few : count ≤ 240
-    few = omega (arith, l .number, released-is capture, received-is capture, ok .short)
-
-    there : (f : Release → ℕ) (old new : List ℕ) → length old ≡ 240 → new ≡ laid (listedBy f (releasedFrom capture)) old → count ≤ length new
-    there f old new h e =
-        let made = listed-length f (releasedFrom capture) in
-        omega (arith, few, l .number, made, ap length e ∙ length-laid (listedBy f (releasedFrom capture)) old (omega (arith, few, l .number, made)))
-
--- ---- the answer
-
 pub refused-listing : (capture text : List ℕ) (r : ℕ) → r ≡ refusalOf capture → (r ≡ 0 → ⊥) → done (record { refusal = r; count = 0 }) text ≡ listed capture text
 unfolding listed
 refused-listing capture text r e n = rw (← e, ne-eqb r 0 n)
 
-pub whole-listing : (capture : List ℕ) (mode E received count : ℕ) (s p q s′ p′ q′ text : List ℕ) → refusalOf capture ≡ 0 → mode ≡ modeOf capture → E ≡ extentOf capture
-    → received ≡ receivedIn capture → Lists capture count s p q s′ p′ q′ → written (headLine mode E received count ++ linesOf count s′ p′ q′) text ≡ listed capture text
-unfolding listed written textOf
-whole-listing capture mode E received count s p q s′ p′ q′ text z em ee en l =
-    rw (eq-eqb (refusalOf capture) 0 z, em, ee, en, l .number, l .statuses, l .places, l .patterns, all-lines (releasedFrom capture) s p q)
+pub whole-listing : (capture : List ℕ) (mode E : ℕ) (lane text : List ℕ) → refusalOf capture ≡ 0 → mode ≡ modeOf capture → E ≡ extentOf capture → lane ≡ laneOf capture
+    → laidOver (laneText mode E lane) text ≡ listed capture text
+unfolding listed textOf laneText releasesOf releasedFrom receivedIn
+whole-listing capture mode E lane text z em ee el = rw (eq-eqb (refusalOf capture) 0 z, em, ee, el)

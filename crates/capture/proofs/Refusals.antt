@@ -176,9 +176,12 @@ module _ (capture : List ℕ) where
       pub start-read : o .start ≡ 11
       start-read = ap (λ (x : Opened). x .start) fields
 
-      pub count-read : o .count ≡ length capture - 11
-      count-read = ap (λ (x : Opened). x .count) fields
-
       pub lane-read : take (length capture - o .start) (drop (o .start) capture) ≡ laneOf capture
       unfolding laneOf
       lane-read = rw start-read (take-all (length capture - 11) (drop 11 capture) (omega (arith, length-drop 11 capture)))
+
+      pub lane-accepted : (o .mode ≤ 1) × (length (take (length capture - o .start) (drop (o .start) capture)) % 264 ≡ 0) × (length (take (length capture - o .start) (drop (o .start) capture)) ≤ 63360)
+      lane-accepted =
+          let ok = accepted-read in
+          let long = ap length lane-read ∙ lane-length capture in
+          (omega (arith, mode-read, ok .mode), ap (λ (x : ℕ). x % 264) long ∙ ok .whole, omega (arith, long, ok .short))

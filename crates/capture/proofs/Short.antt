@@ -16,11 +16,11 @@ use Rattle.bits.proofs.Laid.{length-laid}
 use Rattle.frame.specs.Modes.{row}
 use Rattle.receiver.specs.Release.{Release, fresh}
 use Rattle.receiver.proofs.Verdicts.{Released, run-cases}
+use Rattle.text.specs.Text.{headLine, releaseLine}
+use Rattle.text.proofs.Decimal.{decimal-below, line-length, head-length, name-short}
 use Rattle.capture.specs.declared.Listed.{Listed}
 use Rattle.capture.specs.Form.{modeOf, extentOf, laneOf, refusalOf}
-use Rattle.capture.specs.Text.{nameOf, headLine, releaseLine}
-use Rattle.capture.specs.Listing.{receivedIn, releasedFrom, lines, textOf, Done, done, listed}
-use Rattle.capture.proofs.Decimal.{decimal-below, line-length, head-length}
+use Rattle.capture.specs.Listing.{receivedIn, releasedFrom, lines, textOf, Done, done, laidOver, listed}
 use Rattle.capture.proofs.Refusals.{accepted}
 use Rattle.capture.proofs.Received.{received-is, released-is}
 
@@ -60,17 +60,7 @@ lines-short k (r ∷ out) h c =
       lines-short (suc k) out (omega arith) (λ x i. c x (List·Memᴰ·tail i)),
     )
 
--- ---- the header line has at most 18
-
-name-short : (mode : ℕ) → length (nameOf mode) ≤ 6
-unfolding nameOf
-name-short mode = by (eqb mode 1)
-  where
-    by : (t : Bool) → length {A = ℕ} (pick t (102 ∷ 101 ∷ 99 ∷ 32 ∷ []) (99 ∷ 114 ∷ 99 ∷ 49 ∷ 50 ∷ 32 ∷ [])) ≤ 6
-    by true = omega arith
-    by false = omega arith
-
--- ---- all of it
+-- ---- all of it, with a header line of at most 18
 
 pub text-short : (capture : List ℕ) → refusalOf capture ≡ 0 → length (textOf capture) ≤ 3603
 unfolding textOf releasedFrom
@@ -97,7 +87,7 @@ text-short capture z =
 
 -- so that no capture is refused for want of room
 pub room-enough : (capture text : List ℕ) → 3603 ≤ length text → listed capture text .answer .refusal ≡ refusalOf capture
-unfolding listed
+unfolding listed laidOver
 room-enough capture text room = by (ℕ-discrete (refusalOf capture) 0)
   where
     by : Dec (refusalOf capture ≡ 0) → listed capture text .answer .refusal ≡ refusalOf capture
@@ -111,7 +101,7 @@ record Counted (d : Done) (text : List ℕ) : Type 0 where
   long : length (d .text) ≡ length text
 
 counted : (capture text : List ℕ) → Counted (listed capture text) text
-unfolding listed
+unfolding listed laidOver
 counted capture text = by (ℕ-discrete (refusalOf capture) 0) (decLe (length (textOf capture)) (length text))
   where
     none : (refusal : ℕ) → Counted (done (record { refusal = refusal; count = 0 }) text) text

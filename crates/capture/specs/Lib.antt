@@ -1,5 +1,4 @@
 -- The form of a capture, and the text of its listing.
 pub mod Form
-pub mod Text
 pub mod Listing
-pub mod Writing
+pub mod Lane

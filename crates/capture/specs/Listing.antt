@@ -9,9 +9,9 @@ use Rattle.bits.specs.Order.{bitAt, laid}
 use Rattle.frame.specs.Modes.{row}
 use Rattle.frame.specs.Lane.{laneOctets}
 use Rattle.receiver.specs.Release.{Release, Step, fresh, run}
+use Rattle.text.specs.Text.{headLine, releaseLine}
 use Rattle.capture.specs.declared.Listed.{Listed}
 use Rattle.capture.specs.Form.{refusalOf, modeOf, extentOf, laneOf}
-use Rattle.capture.specs.Text.{headLine, releaseLine}
 
 -- the multiblocks of a capture
 unfoldable pub receivedIn : List ℕ → ℕ
@@ -39,11 +39,16 @@ pub record Done : Type 0 where
 abbrev pub done : Listed → List ℕ → Done
 done answer text = record { answer = answer; text = text }
 
--- refused as the capture is, or by 7 where the text has no room, with the text as it was; or the text laid over its start
+-- laid over the start where it fits; or refused by 7, with the text as it was
+unfoldable pub laidOver : List ℕ → List ℕ → Done
+laidOver new text =
+    pick (leb (length new) (length text))
+    (done (record { refusal = 0; count = length new }) (laid new text))
+    (done (record { refusal = 7; count = 0 }) text)
+
+-- refused as the capture is, with the text as it was; or the whole text
 unfoldable pub listed : List ℕ → List ℕ → Done
 listed capture text =
     pick (eqb (refusalOf capture) 0)
-    (pick (leb (length (textOf capture)) (length text))
-    (done (record { refusal = 0; count = length (textOf capture) }) (laid (textOf capture) text))
-    (done (record { refusal = 7; count = 0 }) text))
+    (laidOver (textOf capture) text)
     (done (record { refusal = refusalOf capture; count = 0 }) text)

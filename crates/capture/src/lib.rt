@@ -2,11 +2,9 @@
 ghost use mathlib.Core.Path.{_≡_};
 ghost use Rattle.capture.specs.Form.{opened};
 ghost use Rattle.capture.specs.Listing.{done, listed};
-use receiver::Receiver;
 
 mod form;
-mod lines;
-mod text;
+mod lane;
 
 // A refusal, or 0 with the mode, E, and where the lane octets stand.
 pub struct Opened {
@@ -59,29 +57,5 @@ pub fn listing(capture: &[u8], text: &mut [u8]) -> Listed
         };
     }
     let start = opened.start;
-    let mut octets = [0u8; 61440];
-    let mut statuses = [0u8; 240];
-    let mut commands = [0u32; 240];
-    let mut places = [0u16; 240];
-    let mut patterns = [0u16; 240];
-    let received = receiver::receive(
-        opened.mode,
-        Receiver::fresh(),
-        &capture[start..],
-        &mut octets,
-        &mut statuses,
-        &mut commands,
-        &mut places,
-        &mut patterns,
-    );
-    lines::write(
-        text,
-        opened.mode,
-        opened.e,
-        (opened.count / 264) as u32,
-        received.count,
-        &statuses,
-        &places,
-        &patterns,
-    )
+    lane::list(text, opened.mode, opened.e, &capture[start..])
 }

@@ -1,0 +1,5 @@
+-- Laws of text that no one function owns.
+pub mod Decimal
+pub mod Wrote
+pub mod Releases
+pub mod Refusals

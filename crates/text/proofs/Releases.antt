@@ -1,0 +1,78 @@
+-- The lines of a listing one by one, and the whole of its text: document 01, "Capture and listing". Assumes nothing.
+use mathlib.Core.Path.{_≡_, refl, sym, ap, ap₂, _∙_}
+use mathlib.Core.List.{List, [], _∷_, _++_}
+use Prim.Native.Nat.{ℕ, zero, suc, _+_, _-_, _≤_, _<_}
+use native.Mathlib.Nat.{add-zero}
+use native.Mathlib.Numerals.{add-one}
+use native.Mathlib.Omega.{arith}
+use borrow.Author.Tests.{le-leb, lt-leb}
+use lib.ListN.{length, getD, length-append}
+use Rattle.bits.specs.Order.{laid}
+use Rattle.text.specs.Text.{headLine, releaseLine}
+use Rattle.text.specs.Writing.{Wrote, linesOf, textOf, Done, done, laidOver}
+use Rattle.text.proofs.Wrote.{wrote-none, wrote-then, wrote-is, wrote-laid, room-then}
+
+-- ---- one line more
+
+pub no-lines : (s p q : List ℕ) → linesOf 0 s p q ≡ []
+unfolding linesOf
+no-lines s p q = refl
+
+pub wrote-no-lines : (s p q : List ℕ) (at : ℕ) (old : List ℕ) → at ≤ length old → Wrote (linesOf 0 s p q) at old at old
+wrote-no-lines s p q at old h = wrote-is (sym (no-lines s p q)) (wrote-none at old h)
+
+pub lines-next : (k : ℕ) (s p q : List ℕ) → linesOf (k + 1) s p q ≡ linesOf k s p q ++ releaseLine k (getD s k 0) (getD p k 0) (getD q k 0)
+unfolding linesOf
+lines-next k s p q = rw add-one
+
+lines-longer : (k j : ℕ) (s p q : List ℕ) → length (linesOf k s p q) ≤ length (linesOf (k + j) s p q)
+lines-longer k zero s p q = omega (arith, ap (λ (x : ℕ). length (linesOf x s p q)) (add-zero k))
+lines-longer k (suc j) s p q =
+    let e : k + suc j ≡ k + j + 1 = omega arith in
+    let line = releaseLine (k + j) (getD s (k + j) 0) (getD p (k + j) 0) (getD q (k + j) 0) in
+    omega (
+      arith,
+      ap (λ (x : ℕ). length (linesOf x s p q)) e,
+      ap length (lines-next (k + j) s p q),
+      length-append (linesOf (k + j) s p q) line,
+      lines-longer k j s p q,
+    )
+
+lines-within : (k n : ℕ) (s p q : List ℕ) → k ≤ n → length (linesOf k s p q) ≤ length (linesOf n s p q)
+lines-within k n s p q h =
+    let e : k + (n - k) ≡ n = omega arith in
+    omega (arith, lines-longer k (n - k) s p q, ap (λ (x : ℕ). length (linesOf x s p q)) e)
+
+-- the line of release k
+module _ (k : ℕ) (s p q : List ℕ) where
+  pub total-next : length (linesOf k s p q) + length (releaseLine k (getD s k 0) (getD p k 0) (getD q k 0)) ≡ length (linesOf (k + 1) s p q)
+  total-next = sym (length-append (linesOf k s p q) (releaseLine k (getD s k 0) (getD p k 0) (getD q k 0))) ∙ ap length (sym (lines-next k s p q))
+
+  pub wrote-next : {old mid text : List ℕ} {start at next : ℕ} → Wrote (linesOf k s p q) start old at mid → Wrote (releaseLine k (getD s k 0) (getD p k 0) (getD q k 0)) at mid next text
+      → Wrote (linesOf (k + 1) s p q) start old next text
+  wrote-next a b = wrote-is (sym (lines-next k s p q)) (wrote-then a b)
+
+  pub room-next : {old mid : List ℕ} {start at : ℕ} (n : ℕ) → k < n → start + length (linesOf n s p q) ≤ length old → Wrote (linesOf k s p q) start old at mid
+      → at + length (releaseLine k (getD s k 0) (getD p k 0) (getD q k 0)) ≤ length mid
+  room-next n h room w =
+      room-then (releaseLine k (getD s k 0) (getD p k 0) (getD q k 0)) (omega (arith, lines-within (k + 1) n s p q (omega arith), ap length (lines-next k s p q))) w
+
+-- ---- the whole text, where there is room for it
+
+pub text-is : (mode E received : ℕ) (s p q : List ℕ) → textOf mode E received s p q ≡ headLine mode E received (length s) ++ linesOf (length s) s p q
+unfolding textOf
+text-is mode E received s p q = refl
+
+pub no-room : (new text : List ℕ) → length text < length new → done (record { refusal = 7; count = 0 }) text ≡ laidOver new text
+unfolding laidOver
+no-room new text h = rw (lt-leb (length new) (length text) h)
+
+pub with-room : (new text : List ℕ) → length new ≤ length text → done (record { refusal = 0; count = length new }) (laid new text) ≡ laidOver new text
+unfolding laidOver
+with-room new text h = rw (le-leb (length new) (length text) h)
+
+pub all-written : {new old text : List ℕ} {count : ℕ} → Wrote new 0 old count text → done (record { refusal = 0; count = count }) text ≡ laidOver new old
+all-written {new} {old} {text} {count} w =
+    let fits : 0 + length new ≤ length old = w .fits in
+    let t = wrote-laid w in
+    rw (t .0, t .1) (with-room new old (omega arith))

@@ -1,0 +1,3 @@
+-- Numbers and lines as text, and the text of a listing.
+pub mod Text
+pub mod Writing

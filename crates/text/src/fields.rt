@@ -1,0 +1,134 @@
+// Numbers and lines as text: document 01, "Capture and listing". Each is written where there is room for it, and answers the place after it.
+ghost use mathlib.Core.Path.{_≡_};
+ghost use mathlib.Core.List.{[], _∷_};
+ghost use Prim.Native.Nat.{_+_, _≤_, _<_};
+ghost use lib.ListN.{length};
+ghost use Rattle.text.specs.Text.{decimal, nameOf, headLine, releaseLine};
+ghost use Rattle.text.specs.Writing.{Wrote, field};
+
+fn digit(n: u32) -> u8
+    requires { ⌜ n < 10 ⌝ }
+    ensures { λ r. ⌜ r ≡ 48 + n ⌝ }
+{
+    48 + (n as u8)
+}
+
+// How many digits a number has.
+fn width(n: u32) -> usize
+    ensures { λ r. ⌜ (r ≡ length (decimal n)) × (r ≤ 20) ⌝ }
+{
+    if n < 10 {
+        return 1;
+    }
+    width(n / 10) + 1
+}
+
+fn put_octet(text: &mut [u8], at: usize, octet: u8) -> usize
+    requires { ⌜ at < length (now text) ⌝ }
+    ensures { λ r. ⌜ Wrote (octet ∷ []) at (now (text .entry)) r (now (text .exit)) ⌝ }
+{
+    text[at] = octet;
+    at + 1
+}
+
+fn put_decimal(text: &mut [u8], at: usize, n: u32) -> usize
+    requires { ⌜ at + length (decimal n) ≤ length (now text) ⌝ }
+    ensures { λ r. ⌜ Wrote (decimal n) at (now (text .entry)) r (now (text .exit)) ⌝ }
+{
+    if n < 10 {
+        return put_octet(text, at, digit(n));
+    }
+    let next = put_decimal(text, at, n / 10);
+    put_octet(text, next, digit(n % 10))
+}
+
+// A number, and the octet that ends it.
+fn put_field(text: &mut [u8], at: usize, n: u32, end: u8) -> usize
+    requires { ⌜ at + length (field n end) ≤ length (now text) ⌝ }
+    ensures { λ r. ⌜ Wrote (field n end) at (now (text .entry)) r (now (text .exit)) ⌝ }
+{
+    let next = put_decimal(text, at, n);
+    put_octet(text, next, end)
+}
+
+fn put_fec(text: &mut [u8]) -> usize
+    requires { ⌜ 4 ≤ length (now text) ⌝ }
+    ensures { λ r. ⌜ Wrote (nameOf 1) 0 (now (text .entry)) r (now (text .exit)) ⌝ }
+{
+    text[0] = b'f';
+    text[1] = b'e';
+    text[2] = b'c';
+    text[3] = b' ';
+    4
+}
+
+fn put_crc12(text: &mut [u8]) -> usize
+    requires { ⌜ 6 ≤ length (now text) ⌝ }
+    ensures { λ r. ⌜ Wrote (nameOf 0) 0 (now (text .entry)) r (now (text .exit)) ⌝ }
+{
+    text[0] = b'c';
+    text[1] = b'r';
+    text[2] = b'c';
+    text[3] = b'1';
+    text[4] = b'2';
+    text[5] = b' ';
+    6
+}
+
+// The name of the mode, and a space.
+fn put_name(text: &mut [u8], mode: u8) -> usize
+    requires { ⌜ length (nameOf mode) ≤ length (now text) ⌝ }
+    ensures { λ r. ⌜ Wrote (nameOf mode) 0 (now (text .entry)) r (now (text .exit)) ⌝ }
+{
+    if mode == 1 {
+        return put_fec(text);
+    }
+    put_crc12(text)
+}
+
+fn name_width(mode: u8) -> usize
+    ensures { λ r. ⌜ (r ≡ length (nameOf mode)) × (r ≤ 6) ⌝ }
+{
+    if mode == 1 { 4 } else { 6 }
+}
+
+// Mode name, E, received, released.
+pub(crate) fn put_head(text: &mut [u8], mode: u8, e: u32, received: u32, released: u32) -> usize
+    requires { ⌜ length (headLine mode e received released) ≤ length (now text) ⌝ }
+    ensures { λ r. ⌜ Wrote (headLine mode e received released) 0 (now (text .entry)) r (now (text .exit)) ⌝ }
+{
+    let name = put_name(text, mode);
+    let first = put_field(text, name, e, b' ');
+    let second = put_field(text, first, received, b' ');
+    put_field(text, second, released, b'\n')
+}
+
+pub(crate) fn head_width(mode: u8, e: u32, received: u32, released: u32) -> usize
+    ensures { λ r. ⌜ (r ≡ length (headLine mode e received released)) × (r ≤ 69) ⌝ }
+{
+    name_width(mode) + width(e) + width(received) + width(released) + 3
+}
+
+// Number, status, place, pattern.
+pub(crate) fn put_line(
+    text: &mut [u8],
+    at: usize,
+    k: u32,
+    status: u8,
+    place: u16,
+    pattern: u16,
+) -> usize
+    requires { ⌜ at + length (releaseLine k status place pattern) ≤ length (now text) ⌝ }
+    ensures { λ r. ⌜ Wrote (releaseLine k status place pattern) at (now (text .entry)) r (now (text .exit)) ⌝ }
+{
+    let first = put_field(text, at, k, b' ');
+    let second = put_field(text, first, status as u32, b' ');
+    let third = put_field(text, second, place as u32, b' ');
+    put_field(text, third, pattern as u32, b'\n')
+}
+
+pub(crate) fn line_width(k: u32, status: u8, place: u16, pattern: u16) -> usize
+    ensures { λ r. ⌜ (r ≡ length (releaseLine k status place pattern)) × (r ≤ 84) ⌝ }
+{
+    width(k) + width(status as u32) + width(place as u32) + width(pattern as u32) + 4
+}
