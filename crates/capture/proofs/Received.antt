@@ -1,19 +1,17 @@
 -- What a fresh receiver's lists say of a capture's lane: the text made of them is the text of the capture. Document 01, "Capture and
 -- listing". Assumes nothing.
-use mathlib.Core.Path.{_≡_, refl, sym, ap, ap₂, _∙_}
-use mathlib.Core.Bool.{Bool, true, false}
+use mathlib.Core.Path.{_≡_, sym, ap, _∙_}
 use mathlib.Core.List.{List, [], _∷_, _++_, append-assoc, append-nil}
-use Prim.Native.Nat.{ℕ, zero, suc, _+_, _-_, _*_, _/_, _%_, _≤_, _<_}
-use native.Mathlib.Nat.{add-zero, zero-add, add-suc}
+use Prim.Native.Nat.{ℕ, zero, suc, _+_, _-_, _/_, _%_, _≤_}
+use native.Mathlib.Nat.{add-zero, zero-add}
 use native.Mathlib.Omega.{arith}
 use native.Mathlib.Decide.{decLe}
 use borrow.Author.Tests.{eq-eqb, ne-eqb, le-leb, lt-leb}
-use lib.ListN.{length, getD, take, drop}
+use lib.ListN.{length, getD, take}
 use lib.Seq.{take-suc, take-length, length-take-le}
 use Rattle.bits.specs.Order.{bitAt, laid}
 use Rattle.bits.proofs.Laid.{taken-back}
 use Rattle.frame.specs.Modes.{row}
-use Rattle.frame.specs.Lane.{laneOctets}
 use Rattle.frame.proofs.Sizes.{row-octets}
 use Rattle.receiver.specs.declared.Receiver.{Receiver}
 use Rattle.receiver.specs.declared.Received.{Received}
@@ -116,19 +114,6 @@ module _ (mode : ℕ) (lane : List ℕ) (known : mode ≤ 1) (entire : length la
   })
 
 -- ---- the text of a lane, written from such lists
-
-module _ {out : List Release} {count : ℕ} {s p q : List ℕ} (l : Lists out count s p q) where
-  counted : (f : Release → ℕ) (x : List ℕ) → take count x ≡ listedBy f out → count ≡ length (take count x)
-  counted f x e = l .number ∙ sym (ap length e ∙ listed-length f out)
-
-  pub statuses-counted : count ≡ length (take count s)
-  statuses-counted = counted (λ (r : Release). r .status) s (l .statuses)
-
-  pub places-counted : count ≡ length (take count p)
-  places-counted = counted (λ (r : Release). r .place) p (l .places)
-
-  pub patterns-counted : count ≡ length (take count q)
-  patterns-counted = counted (λ (r : Release). r .pattern) q (l .patterns)
 
 abbrev listing-of : Answer → Done
 listing-of d = done (record { refusal = d .answer .refusal; count = d .answer .count }) (d .text)

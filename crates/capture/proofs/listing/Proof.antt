@@ -24,7 +24,7 @@ use Rattle.capture.proofs.open.Reads as open-reads
 
 -- src/lib.rt:52:9
 open-requires : tie.Need-open-requires
-open-requires c κs = search needs
+open-requires c κs = tt
 
 -- src/lib.rt:54:9
 returns : tie.Need-returns
@@ -61,7 +61,7 @@ list-requires c κs = lane-accepted (c .before .before .before .before .before .
 
 -- src/lib.rt:49:1
 same-length : tie.Need-same-length
-same-length c = search needs
+same-length c = c .before .before .list .kept .0
 
 -- src/lib.rt:49:1
 returns-2 : tie.Need-returns-2
