@@ -1,9 +1,9 @@
--- `zaytulobe::locking::phase_of` meets its contract.
+-- `numbers::locks::phase_of` meets its contract.
 -- Assumes nothing.
 use borrow.Author.Tests.{le-ltb, lt-ltb, le-leb, lt-leb, eq-eqb, ne-eqb}
-use Rattle.zaytulobe.specs.Locking.{phaseOf}
-use Rattle.zaytulobe.proofs.locking.phase_of.Statement.{statement}
-use Rattle.zaytulobe.proofs.locking.phase_of.Tie as tie
+use Rattle.numbers.specs.Locks.{phaseOf}
+use Rattle.numbers.proofs.locks.phase_of.Statement.{statement}
+use Rattle.numbers.proofs.locks.phase_of.Tie as tie
 
 returns : tie.Need-returns
 unfolding phaseOf

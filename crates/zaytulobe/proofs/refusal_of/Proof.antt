@@ -1,8 +1,8 @@
--- `zaytulobe::locking::refusal_of` meets its contract.
+-- `zaytulobe::refusal_of` meets its contract.
 -- Assumes nothing.
 use borrow.Author.Tests.{le-ltb, lt-ltb, le-leb, lt-leb, eq-eqb, ne-eqb}
-use Rattle.zaytulobe.proofs.locking.refusal_of.Statement.{statement}
-use Rattle.zaytulobe.proofs.locking.refusal_of.Tie as tie
+use Rattle.zaytulobe.proofs.refusal_of.Statement.{statement}
+use Rattle.zaytulobe.proofs.refusal_of.Tie as tie
 
 returns : tie.Need-returns
 returns c = simp (lt-ltb _ _ (c .if1 .taken))
