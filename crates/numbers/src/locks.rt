@@ -98,23 +98,23 @@ pub fn state_of(given: LockNumbers) -> Lock
 pub fn numbers_of(lock: Lock) -> LockNumbers
     ensures { λ r. ⌜ r ≡ numbersOf lock ⌝ }
 {
-    let header = lock.header;
-    let extended = lock.extended;
-    let phase = extended.phase;
-    let phase = phase_number(phase);
+    let state = lock.header;
     let header = HeaderNumbers {
-        locked: header.locked as u32,
-        offset: header.offset,
-        run: header.run,
-        bad: header.bad,
+        locked: state.locked as u32,
+        offset: state.offset,
+        run: state.run,
+        bad: state.bad,
     };
+    let state = lock.extended;
+    let phase = state.phase;
+    let phase = phase_number(phase);
     let extended = ExtendedNumbers {
         phase,
-        seen: extended.seen,
-        headers: extended.headers,
-        good: extended.good,
-        bad: extended.bad,
-        next: extended.next,
+        seen: state.seen,
+        headers: state.headers,
+        good: state.good,
+        bad: state.bad,
+        next: state.next,
     };
     LockNumbers { header, extended }
 }

@@ -6,15 +6,15 @@ use Rattle.numbers.proofs.Back.{bit-number}
 use Rattle.numbers.proofs.locks.numbers_of.Statement.{statement}
 use Rattle.numbers.proofs.locks.numbers_of.Tie as tie
 
-phase-number-requires : tie.Need-phase-number-requires
-phase-number-requires c κs = search needs
-
 cast-t8 : tie.Need-cast-t8
 cast-t8 c = search needs
 
+phase-number-requires : tie.Need-phase-number-requires
+phase-number-requires c κs = search needs
+
 returns : tie.Need-returns
 unfolding numbersOf
-returns c = simp (c .before .phase-number .ensures, bit-number)
+returns c = simp (c .phase-number .ensures, bit-number)
 
 pub numbers-of-spec : {M : Type 1} → statement M
-numbers-of-spec = tie.close (tie.spec phase-number-requires cast-t8 returns)
+numbers-of-spec = tie.close (tie.spec cast-t8 phase-number-requires returns)
