@@ -22,7 +22,7 @@ pub struct RunNumbers {
     pub count: usize,
 }
 
-// A mode or an E out of range comes before a flag or a phase that is none.
+// A mode or an E out of range comes before a flag or a phase that is none. The receiver has no E and hands 1, which is in range.
 fn refusal_of(mode: u8, e: u32) -> u8
     ensures { λ r. ⌜ r ≡ pick (ltb 1 mode) 1 (pick (leb 1 e && leb e 256) 3 2) ⌝ }
 {
