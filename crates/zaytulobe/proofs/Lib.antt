@@ -1,4 +1,3 @@
--- Laws of states as numbers: that each stands for one state, then what the entries answer.
-pub mod Back
+-- What the entries answer to callers in C.
 pub mod Received
 pub mod Stepped

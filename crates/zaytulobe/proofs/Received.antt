@@ -9,14 +9,15 @@ use Rattle.receiver.specs.declared.Receiver.{Receiver}
 use Rattle.receiver.specs.declared.Received.{Received}
 use Rattle.receiver.specs.Entry.{entry}
 use Rattle.receiver.specs.Entry as receiver
-use Rattle.zaytulobe.specs.declared.receiving.ReceiverNumbers.{ReceiverNumbers}
-use Rattle.zaytulobe.specs.Receiving.{Done, done, flagsFit, receiverOf, numbersOf, numbered, received}
+use Rattle.numbers.specs.declared.receivers.ReceiverNumbers.{ReceiverNumbers}
+use Rattle.numbers.specs.Receivers.{fit, stateOf, numbersOf}
+use Rattle.zaytulobe.specs.Receiving.{Done, done, numbered, received}
 
-module _ (mode : ℕ) (x : ReceiverNumbers) (lane o s c p q : List ℕ) (fits : Bool) (known : fits ≡ flagsFit x) where
+module _ (mode : ℕ) (x : ReceiverNumbers) (lane o s c p q : List ℕ) (fits : Bool) (known : fits ≡ fit x) where
   abbrev by-flags : Bool → Done
   by-flags t =
       pick t
-      (numbered (entry mode (receiverOf x) lane o s c p q))
+      (numbered (entry mode (stateOf x) lane o s c p q))
       (done (record { refusal = pick (ltb 1 mode) 1 3; count = 0; state = x }) o s c p q)
 
   pub is-refused : (refusal : ℕ) → fits ≡ false → refusal ≡ pick (ltb 1 mode) 1 3 →
@@ -25,11 +26,11 @@ module _ (mode : ℕ) (x : ReceiverNumbers) (lane o s c p q : List ℕ) (fits : 
   is-refused refusal unfit e =
       ap (λ (k : ℕ). done (record { refusal = k; count = 0; state = x }) o s c p q) e ∙ ap by-flags (sym unfit ∙ known)
 
-  pub is-received : (given : Receiver) (answer : Received) (after : ReceiverNumbers) (o′ s′ c′ p′ q′ : List ℕ) → fits ≡ true → given ≡ receiverOf x →
+  pub is-received : (given : Receiver) (answer : Received) (after : ReceiverNumbers) (o′ s′ c′ p′ q′ : List ℕ) → fits ≡ true → given ≡ stateOf x →
       receiver.done answer o′ s′ c′ p′ q′ ≡ entry mode given lane o s c p q → after ≡ numbersOf (answer .state) →
       done (record { refusal = answer .refusal; count = answer .count; state = after }) o′ s′ c′ p′ q′ ≡ received mode x lane o s c p q
   unfolding received numbered
-  is-received given answer after o′ s′ c′ p′ q′ fit g e a =
+  is-received given answer after o′ s′ c′ p′ q′ sure g e a =
       ap (λ (y : ReceiverNumbers). done (record { refusal = answer .refusal; count = answer .count; state = y }) o′ s′ c′ p′ q′) a
       ∙ ap numbered (e ∙ ap (λ (y : Receiver). entry mode y lane o s c p q) g)
-      ∙ ap by-flags (sym fit ∙ known)
+      ∙ ap by-flags (sym sure ∙ known)

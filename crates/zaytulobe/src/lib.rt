@@ -1,5 +1,8 @@
 // The entries for callers in C. A slice is a pointer and a length there; a state is a struct of numbers, by value.
 ghost use mathlib.Core.Path.{_≡_};
+ghost use mathlib.Core.Bool.{_&&_};
+ghost use lib.Dec.{ltb, leb};
+ghost use Rattle.bits.specs.Choice.{pick};
 ghost use Rattle.sender.specs.Lane.{fresh};
 ghost use Rattle.sender.specs.Entry.{done as sent, entry};
 ghost use Rattle.capture.specs.Listing.{done as written, listed};
@@ -17,6 +20,22 @@ pub struct RunNumbers {
     pub refusal: u8,
     pub start: usize,
     pub count: usize,
+}
+
+// A mode or an E out of range comes before a flag or a phase that is none. The receiver has no E and hands 1, which is in range.
+fn refusal_of(mode: u8, e: u32) -> u8
+    ensures { λ r. ⌜ r ≡ pick (ltb 1 mode) 1 (pick (leb 1 e && leb e 256) 3 2) ⌝ }
+{
+    if mode > 1 {
+        return 1;
+    }
+    if e < 1 {
+        return 2;
+    }
+    if e > 256 {
+        return 2;
+    }
+    3
 }
 
 // A sender's first state.

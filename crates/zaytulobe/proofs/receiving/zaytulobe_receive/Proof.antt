@@ -7,8 +7,8 @@ use Rattle.zaytulobe.proofs.Received.{is-refused, is-received}
 use Rattle.zaytulobe.proofs.receiving.zaytulobe_receive.Statement.{statement}
 use Rattle.zaytulobe.proofs.receiving.zaytulobe_receive.Tie as tie
 
-flags-fit-requires : tie.Need-flags-fit-requires
-flags-fit-requires c κs = search needs
+fit-requires : tie.Need-fit-requires
+fit-requires c κs = search needs
 
 refusal-of-requires : tie.Need-refusal-of-requires
 refusal-of-requires c κs = search needs
@@ -16,10 +16,10 @@ refusal-of-requires c κs = search needs
 returns : tie.Need-returns
 returns c =
     let a = c .before .before .before .before .before .before .before .before .before .args in
-    is-refused (a .mode) (a .state) (now (a .lane)) (now (a .octets)) (now (a .statuses)) (now (a .commands)) (now (a .places)) (now (a .patterns)) (c .before .before .flags-fit .result) (c .before .before .flags-fit .ensures) (c .refusal-of .result) (not-true _ (c .before .if1 .taken)) (c .refusal-of .ensures)
+    is-refused (a .mode) (a .state) (now (a .lane)) (now (a .octets)) (now (a .statuses)) (now (a .commands)) (now (a .places)) (now (a .patterns)) (c .before .before .fit .result) (c .before .before .fit .ensures) (c .refusal-of .result) (not-true _ (c .before .if1 .taken)) (c .refusal-of .ensures)
 
-receiver-of-requires : tie.Need-receiver-of-requires
-receiver-of-requires c κs = search needs
+state-of-requires : tie.Need-state-of-requires
+state-of-requires c κs = search needs
 
 receive-requires : tie.Need-receive-requires
 receive-requires c κs = search needs
@@ -45,11 +45,11 @@ same-length-5 c = search needs
 returns-2 : tie.Need-returns-2
 returns-2 c =
     let a = c .before .before .before .before .before .before .before .before .before .before .before .before .before .before .before .before .before .before .before .before .before .before .before .before .before .before .before .args in
-    let f = c .before .before .before .before .before .before .before .before .before .before .before .before .before .before .before .before .before .before .before .before .flags-fit in
+    let f = c .before .before .before .before .before .before .before .before .before .before .before .before .before .before .before .before .before .before .before .before .fit in
     let received = c .before .before .before .before .before .before .before .before .before .before .before .before .receive in
-    is-received (a .mode) (a .state) (now (a .lane)) (now (a .octets)) (now (a .statuses)) (now (a .commands)) (now (a .places)) (now (a .patterns)) (f .result) (f .ensures) (c .before .before .before .before .before .before .before .before .before .before .before .before .before .before .before .before .before .before .receiver-of .result) (received .result) (c .numbers-of .result) _ _ _ _ _ (not-false _ (c .before .before .before .before .before .before .before .before .before .before .before .before .before .before .before .before .before .before .before .if1 .left)) (c .before .before .before .before .before .before .before .before .before .before .before .before .before .before .before .before .before .before .receiver-of .ensures) (received .ensures) (c .numbers-of .ensures)
+    is-received (a .mode) (a .state) (now (a .lane)) (now (a .octets)) (now (a .statuses)) (now (a .commands)) (now (a .places)) (now (a .patterns)) (f .result) (f .ensures) (c .before .before .before .before .before .before .before .before .before .before .before .before .before .before .before .before .before .before .state-of .result) (received .result) (c .numbers-of .result) _ _ _ _ _ (not-false _ (c .before .before .before .before .before .before .before .before .before .before .before .before .before .before .before .before .before .before .before .if1 .left)) (c .before .before .before .before .before .before .before .before .before .before .before .before .before .before .before .before .before .before .state-of .ensures) (received .ensures) (c .numbers-of .ensures)
 
 pub zaytulobe-receive-spec : {M : Type 1} → statement M
 zaytulobe-receive-spec =
     tie.close
-    (tie.spec flags-fit-requires refusal-of-requires returns receiver-of-requires receive-requires numbers-of-requires same-length same-length-2 same-length-3 same-length-4 same-length-5 returns-2)
+    (tie.spec fit-requires refusal-of-requires returns state-of-requires receive-requires numbers-of-requires same-length same-length-2 same-length-3 same-length-4 same-length-5 returns-2)

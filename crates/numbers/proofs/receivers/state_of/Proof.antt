@@ -1,0 +1,13 @@
+-- `numbers::receivers::state_of` meets its contract.
+-- Assumes nothing.
+use mathlib.Core.Path.{refl}
+use Rattle.numbers.specs.Receivers.{stateOf}
+use Rattle.numbers.proofs.receivers.state_of.Statement.{statement}
+use Rattle.numbers.proofs.receivers.state_of.Tie as tie
+
+returns : tie.Need-returns
+unfolding stateOf
+returns c = refl
+
+pub state-of-spec : {M : Type 1} → statement M
+state-of-spec = tie.close (tie.spec returns)

@@ -1,0 +1,4 @@
+-- States as numbers.
+pub mod Flag
+pub mod Receivers
+pub mod Locks
