@@ -30,7 +30,7 @@ impl Crc12 {
         ensures { λ r. ⌜ r ≡ parityOf crc12 (now (octets .entry)) ⌝ }
     {
         let count = octets.len() / 8;
-        let r = word::words(false, octets, count);
+        let r = word::crc12_words(octets, count);
         bitwise::rest(Crc12::WIDTH, Crc12::LOWER, r, octets, 8 * count)
     }
 
@@ -58,7 +58,7 @@ impl Fec {
         ensures { λ r. ⌜ r ≡ parityOf fec (now (octets .entry)) ⌝ }
     {
         let count = octets.len() / 8;
-        let r = word::words(true, octets, count);
+        let r = word::fec_words(octets, count);
         bitwise::rest(Fec::WIDTH, Fec::LOWER, r, octets, 8 * count)
     }
 

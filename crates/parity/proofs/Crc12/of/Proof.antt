@@ -14,8 +14,8 @@ use Rattle.parity.proofs.Codeword.{code-fits}
 use Rattle.parity.proofs.Crc12.of.Statement.{statement}
 use Rattle.parity.proofs.Crc12.of.Tie as tie
 
-words-requires : tie.Need-words-requires
-words-requires c κs = search needs
+crc12-words-requires : tie.Need-crc12-words-requires
+crc12-words-requires c κs = search needs
 
 mul-rest : tie.Need-mul-rest
 mul-rest c = search needs
@@ -23,13 +23,13 @@ mul-rest c = search needs
 rest-requires : tie.Need-rest-requires
 rest-requires c κs =
     let octets = c .before .before .args .octets .now in
-    (search needs, search needs, rw (c .words .ensures) (from-lt 12 0x30F (code-fits false) 0 (run (bitAt octets) 0 (64 * (length octets / 8))) (pow-pos 12)), omega arith)
+    (search needs, search needs, rw (c .crc12-words .ensures) (from-lt 12 0x30F (code-fits false) 0 (run (bitAt octets) 0 (64 * (length octets / 8))) (pow-pos 12)), omega arith)
 
 returns : tie.Need-returns
 unfolding parityOf
 returns c =
     let octets = c .before .before .before .args .octets .now in
-    rw (c .rest .ensures) (words-rest 12 0x30F octets (length octets / 8) (c .before .words .result) (omega arith) (c .before .words .ensures))
+    rw (c .rest .ensures) (words-rest 12 0x30F octets (length octets / 8) (c .before .crc12-words .result) (omega arith) (c .before .crc12-words .ensures))
 
 pub of-spec : {M : Type 1} → statement M
-of-spec = tie.close (tie.spec words-requires mul-rest rest-requires returns)
+of-spec = tie.close (tie.spec crc12-words-requires mul-rest rest-requires returns)

@@ -14,8 +14,8 @@ use Rattle.parity.proofs.Codeword.{code-fits}
 use Rattle.parity.proofs.Fec.of.Statement.{statement}
 use Rattle.parity.proofs.Fec.of.Tie as tie
 
-words-requires : tie.Need-words-requires
-words-requires c κs = search needs
+fec-words-requires : tie.Need-fec-words-requires
+fec-words-requires c κs = search needs
 
 mul-rest : tie.Need-mul-rest
 mul-rest c = search needs
@@ -23,13 +23,13 @@ mul-rest c = search needs
 rest-requires : tie.Need-rest-requires
 rest-requires c κs =
     let octets = c .before .before .args .octets .now in
-    (search needs, search needs, rw (c .words .ensures) (from-lt 26 0x0220211 (code-fits true) 0 (run (bitAt octets) 0 (64 * (length octets / 8))) (pow-pos 26)), omega arith)
+    (search needs, search needs, rw (c .fec-words .ensures) (from-lt 26 0x0220211 (code-fits true) 0 (run (bitAt octets) 0 (64 * (length octets / 8))) (pow-pos 26)), omega arith)
 
 returns : tie.Need-returns
 unfolding parityOf
 returns c =
     let octets = c .before .before .before .args .octets .now in
-    rw (c .rest .ensures) (words-rest 26 0x0220211 octets (length octets / 8) (c .before .words .result) (omega arith) (c .before .words .ensures))
+    rw (c .rest .ensures) (words-rest 26 0x0220211 octets (length octets / 8) (c .before .fec-words .result) (omega arith) (c .before .fec-words .ensures))
 
 pub of-spec : {M : Type 1} → statement M
-of-spec = tie.close (tie.spec words-requires mul-rest rest-requires returns)
+of-spec = tie.close (tie.spec fec-words-requires mul-rest rest-requires returns)

@@ -1,30 +1,29 @@
--- `parity::word::words` meets its contract.
+-- `parity::word::crc12_words` meets its contract.
 -- Assumes nothing.
 use borrow.Author.Needs.{needs}
 use Prim.Native.Nat.{ℕ, _-_, _*_, _≤_}
 use mathlib.Core.Path.{_≡_, sym, ap, _∙_}
+use mathlib.Core.Bool.{false}
 use native.Mathlib.Omega.{arith}
 use Rattle.bits.specs.Order.{bitAt, run}
 use Rattle.bits.proofs.Numbers.{bitAt-lt}
 use Rattle.polynomial.specs.Remainder.{remainderFrom}
 use Rattle.polynomial.proofs.Remainder.{from-none, from-lt}
 use Rattle.polynomial.proofs.Words.{word-more}
-use Rattle.parity.specs.Codeword.{Code, codeOf}
 use Rattle.parity.proofs.Codeword.{code-fits}
 use lib.Pow.{pow-pos}
-use Rattle.parity.proofs.word.words.Statement.{statement}
-use Rattle.parity.proofs.word.words.Tie as tie
+use Rattle.parity.proofs.word.crc12_words.Statement.{statement}
+use Rattle.parity.proofs.word.crc12_words.Tie as tie
 
 abbrev Inv-loop : tie.InvT-loop
-Inv-loop fec octets count s₀ i₀ s i = (i ≤ count) × (s ≡ remainderFrom (codeOf fec .width) (codeOf fec .lower) 0 (run (bitAt octets) 0 (64 * i)))
+Inv-loop octets count s₀ i₀ s i = (i ≤ count) × (s ≡ remainderFrom 12 0x30F 0 (run (bitAt octets) 0 (64 * i)))
 
 abbrev μ-loop : tie.MeasureT-loop
-μ-loop fec octets count s₀ i₀ s i = count - i
+μ-loop octets count s₀ i₀ s i = count - i
 
 loop-holds : tie.Need-loop-holds Inv-loop μ-loop
 loop-holds c =
-    let C = codeOf (c .before .args .fec) in
-    (search needs, sym (from-none (C .width) (C .lower) 0 (bitAt (c .before .args .octets .now)) 0))
+    (search needs, sym (from-none 12 0x30F 0 (bitAt (c .before .args .octets .now)) 0))
 
 mul-word-at : tie.Need-mul-word-at Inv-loop μ-loop
 mul-word-at c = search needs
@@ -32,12 +31,11 @@ mul-word-at c = search needs
 word-at-requires : tie.Need-word-at-requires Inv-loop μ-loop
 word-at-requires c κs = search needs
 
-next-word-requires : tie.Need-next-word-requires Inv-loop μ-loop
-next-word-requires c κs =
+crc12-word-requires : tie.Need-crc12-word-requires Inv-loop μ-loop
+crc12-word-requires c κs =
     let l = c .before .before .loop in
     let a = c .before .before .before .before .args in
-    let C = codeOf (a .fec) in
-    rw (l .inv .1) (from-lt (C .width) (C .lower) (code-fits (a .fec)) 0 (run (bitAt (a .octets .now)) 0 (64 * l .i)) (pow-pos (C .width)))
+    rw (l .inv .1) (from-lt 12 0x30F (code-fits false) 0 (run (bitAt (a .octets .now)) 0 (64 * l .i)) (pow-pos 12))
 
 add-i : tie.Need-add-i Inv-loop μ-loop
 add-i c = search needs
@@ -49,18 +47,16 @@ loop-again : tie.Need-loop-again Inv-loop μ-loop
 loop-again c =
     let l = c .before .before .before .loop in
     let octets = c .before .before .before .before .before .args .octets .now in
-    let C = codeOf (c .before .before .before .before .before .args .fec) in
-    (search needs, c .next-word .ensures ∙ word-more (C .width) (C .lower) (bitAt octets) (bitAt-lt octets) (l .i) (8 * (8 * l .i)) (l .s) (c .before .word-at .result) (omega arith) (l .inv .1) (c .before .word-at .ensures))
+    (search needs, c .crc12-word .ensures ∙ word-more 12 0x30F (bitAt octets) (bitAt-lt octets) (l .i) (8 * (8 * l .i)) (l .s) (c .before .word-at .result) (omega arith) (l .inv .1) (c .before .word-at .ensures))
 
 returns : tie.Need-returns Inv-loop μ-loop
 returns c =
     let l = c .before .loop in
     let e : l .i ≡ c .before .before .before .args .count = omega arith in
-    let C = codeOf (c .before .before .before .args .fec) in
-    l .inv .1 ∙ ap (λ (i : ℕ). remainderFrom (C .width) (C .lower) 0 (run (bitAt (c .before .before .before .args .octets .now)) 0 (64 * i))) e
+    l .inv .1 ∙ ap (λ (i : ℕ). remainderFrom 12 0x30F 0 (run (bitAt (c .before .before .before .args .octets .now)) 0 (64 * i))) e
 
-pub words-spec : {M : Type 1} → statement M
-words-spec =
+pub crc12-words-spec : {M : Type 1} → statement M
+crc12-words-spec =
     tie.close
     (tie.spec
     Inv-loop
@@ -68,7 +64,7 @@ words-spec =
     loop-holds
     mul-word-at
     word-at-requires
-    next-word-requires
+    crc12-word-requires
     add-i
     loop-less
     loop-again
