@@ -5,11 +5,10 @@ use Prim.Native.Nat.{ℕ, zero, suc, _+_, _-_, _*_, _/_, _%_, _^_, _<_}
 use native.Mathlib.Nat.{zero-add, add-zero, add-suc, mod-eq-of-lt}
 use native.Mathlib.Omega.{arith}
 use lib.ListN.{length, getD, set}
-use lib.Seq.{take-all}
 use Rattle.bits.specs.Order.{bitAt, run, bitsOf, number, digit, digits, octetsOf, wordBit, wordsOf, octetsIn, laid}
-use Rattle.bits.proofs.Numbers.{bitAt-lt, digit-lt, digit-number, number-ext, number-whole}
+use Rattle.bits.proofs.Numbers.{digit-lt, digit-number, number-ext, number-whole}
 use Rattle.bits.proofs.Runs.{run-ext, run-append, length-run, getD-run}
-use Rattle.bits.proofs.Octets.{length-octetsOf, bit-octetsOf, octetsOf-ext, octetsOf-bits}
+use Rattle.bits.proofs.Octets.{length-octetsOf, bit-octetsOf, octetsOf-ext}
 use Rattle.bits.proofs.Laid.{laid-set}
 
 module _ (words : List ℕ) where
@@ -82,8 +81,3 @@ module _ (f : ℕ → ℕ) where
     octetsIn-wordsOf n =
         ap (λ (x : ℕ). octetsOf (wordBit (wordsOf f n)) (8 * x)) (length-wordsOf n)
         ∙ octetsOf-ext (wordBit (wordsOf f n)) f (8 * n) (λ k h. bit-wordsOf n k (omega arith))
-
--- the words of some octets hold those octets
-pub octetsIn-own : (octets : List ℕ) (n : ℕ) → ((j : ℕ) → getD octets j 0 < 256) → length octets ≡ 8 * n → octetsIn (wordsOf (bitAt octets) n) ≡ octets
-octetsIn-own octets n octet-lt long =
-    octetsIn-wordsOf (bitAt octets) (bitAt-lt octets) n ∙ octetsOf-bits octets (8 * n) (λ j _. octet-lt j) (omega (arith, long)) ∙ take-all (8 * n) octets (omega (arith, long))

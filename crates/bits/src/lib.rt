@@ -2,7 +2,7 @@
 ghost use mathlib.Core.Path.{_≡_};
 ghost use Prim.Native.Nat.{_+_, _*_, _≤_, _<_};
 ghost use lib.ListN.{length, getD};
-ghost use Rattle.bits.specs.Order.{bitAt, number, digit, octetsOf, wordsOf, laidAt};
+ghost use Rattle.bits.specs.Order.{bitAt, number, digit, octetsOf, laidAt};
 
 fn wide(octet: u8) -> u64
     ensures { λ r. ⌜ r ≡ octet ⌝ }
@@ -61,15 +61,6 @@ pub fn word_at(octets: &[u8], at: usize) -> u64
         return whole_word(octets, at);
     }
     last_word(octets, at)
-}
-
-// The octets as words, one for each that is lent; past the end they are 0.
-pub fn words_of(octets: &[u8], words: &mut [u64])
-    ensures { λ _. ⌜ now (words .exit) ≡ wordsOf (bitAt (now (octets .entry))) (length (now (words .entry))) ⌝ }
-{
-    for i in 0..words.len() {
-        words[i] = word_at(octets, 8 * i);
-    }
 }
 
 // The 32 low bits of a word over four octets that are there.

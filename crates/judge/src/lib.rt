@@ -70,16 +70,13 @@ fn verdict_of(mode: u8, difference: u32) -> Verdict
 
 // By the octets of the waiting multiblock and the parity that came after it. That they are octets is for `mend`.
 fn judge(mode: u8, octets: &[u8], parity: u32) -> Verdict
-    requires { ⌜ length (now octets) ≡ 256 ⌝ }
     ensures { λ r. ⌜ r ≡ judged (row mode) (now (octets .entry)) parity ⌝ }
     ensures { λ _. ⌜ ((j : ℕ) → getD (now (octets .entry)) j 0 < 256) ⌝ }
 {
-    let mut words = [0u64; 32];
-    bits::words_of(octets, &mut words[..]);
     if mode == 1 {
-        return verdict_of(mode, Fec::of_words(&words[..]) ^ parity);
+        return verdict_of(mode, Fec::of(octets) ^ parity);
     }
-    verdict_of(mode, Crc12::of_words(&words[..]) ^ parity)
+    verdict_of(mode, Crc12::of(octets) ^ parity)
 }
 
 // The octets with the burst flipped. Positions from 2,048 on are parity, and no octet holds them.

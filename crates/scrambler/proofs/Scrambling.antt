@@ -12,11 +12,12 @@ use lib.Dec.{leb, le→leb, leb→le, not-T}
 use lib.ListN.{length, getD}
 use lib.Pow.{pow-pos, shr-shr, high, low, mod-mod-pow, mod-pow-add}
 use lib.Bits.{bitXor, xor-lt, xor-self, xor-zero-r}
-use Rattle.bits.specs.Order.{bitAt, number, octetsOf, wordBit, wordsOf, octetsIn}
+use Rattle.bits.specs.Order.{bitAt, number, octetsOf, wordBit, wordsOf, octetsIn, laid}
 use Rattle.bits.proofs.Xor.{xor-assoc}
 use Rattle.bits.proofs.Numbers.{low-digit, bitAt-lt, number-none, number-more, number-lt, number-ext, number-octet}
 use Rattle.bits.proofs.Octets.{length-octetsOf, getD-octetsOf, bit-octetsOf, octetsOf-ext}
-use Rattle.bits.proofs.WordLists.{bit-wordsOf, octetsIn-wordsOf}
+use Rattle.bits.proofs.Laid.{laid-all}
+use Rattle.bits.proofs.WordLists.{length-wordsOf, bit-wordsOf, octetsIn-wordsOf}
 use Rattle.bits.proofs.Choice.{pick-true, pick-false}
 use Rattle.scrambler.specs.Scrambling.{sentBit, allSent, sent, historyAfter, earlier, plain, scrambled, descrambled}
 
@@ -296,9 +297,11 @@ unfolding scrambled
 scrambled-words octets history n = octetsIn-wordsOf (sent (bitAt octets) history) (sent-lt (bitAt octets) (bitAt-lt octets) history) n
 
 -- blocks that hold octets are descrambled to what these are
-pub descrambled-words : (octets : List ℕ) (history n : ℕ) {blocks : List ℕ} → blocks ≡ wordsOf (bitAt octets) n → octetsOf (plain history (wordBit blocks)) (8 * n) ≡ descrambled octets history (8 * n)
+pub descrambled-words : (octets : List ℕ) (history n : ℕ) (old : List ℕ) {blocks : List ℕ} → length old ≡ n → blocks ≡ laid (wordsOf (bitAt octets) n) old
+    → octetsOf (plain history (wordBit blocks)) (8 * n) ≡ descrambled octets history (8 * n)
 unfolding descrambled
-descrambled-words octets history n {blocks} all =
+descrambled-words octets history n old {blocks} long e =
+    let all : blocks ≡ wordsOf (bitAt octets) n = e ∙ laid-all (wordsOf (bitAt octets) n) old (omega (arith, length-wordsOf (bitAt octets) n)) in
     octetsOf-ext (plain history (wordBit blocks)) (plain history (bitAt octets)) (8 * n)
     (λ k h. plain-ext history (wordBit blocks) (bitAt octets) k (λ j q. ap (λ (x : List ℕ). wordBit x j) all ∙ bit-wordsOf (bitAt octets) (bitAt-lt octets) n j (omega arith)))
 

@@ -76,7 +76,17 @@ pub fn scramble_multiblock(user: &[u8], history: u64, out: &mut [u64]) -> Turned
     }
 }
 
-// The 32 blocks of a multiblock received, each descrambled after the block before. They come as words, since the compiler takes octets that it sees shifted one by one.
+// The 32 blocks of a multiblock received, a word each.
+fn blocks_of(octets: &[u8], blocks: &mut [u64])
+    requires { ⌜ 32 ≤ length (now blocks) ⌝ }
+    ensures { λ _. ⌜ now (blocks .exit) ≡ laid (wordsOf (bitAt (now (octets .entry))) 32) (now (blocks .entry)) ⌝ }
+{
+    for i in 0..32usize {
+        blocks[i] = bits::word_at(octets, 8 * i);
+    }
+}
+
+// Each of them descrambled after the block before. They come as words, since the compiler takes octets that it sees shifted one by one.
 fn descramble_blocks(blocks: &[u64], history: u64, out: &mut [u8])
     requires { ⌜ (32 ≤ length (now blocks)) × (256 ≤ length (now out)) ⌝ }
     ensures { λ _. ⌜ now (out .exit) ≡ laid (octetsOf (plain history (wordBit (now (blocks .entry)))) 256) (now (out .entry)) ⌝ }
@@ -101,7 +111,7 @@ pub fn descramble_multiblock(octets: &[u8], history: u64, out: &mut [u8]) -> u8
         return 7;
     }
     let mut blocks = [0u64; 32];
-    bits::words_of(octets, &mut blocks[..]);
+    blocks_of(octets, &mut blocks[..]);
     descramble_blocks(&blocks[..], history, out);
     0
 }

@@ -22,11 +22,11 @@ returns-2 c =
     let a = c .before .before .before .before .args in
     (sym (few-lent 256 (a .octets .now) 256 (a .out .now) (omega arith) (omega arith)), sym (untouched 7 (descrambled (a .octets .now) (a .history) 256) (a .out .now) (λ e. omega arith)))
 
-slice-aggregate-words-of : tie.Need-slice-aggregate-words-of
-slice-aggregate-words-of c = search needs
+slice-aggregate-blocks-of : tie.Need-slice-aggregate-blocks-of
+slice-aggregate-blocks-of c = search needs
 
-words-of-requires : tie.Need-words-of-requires
-words-of-requires c κs = search needs
+blocks-of-requires : tie.Need-blocks-of-requires
+blocks-of-requires c κs = search needs
 
 slice-aggregate-descramble-blocks : tie.Need-slice-aggregate-descramble-blocks
 slice-aggregate-descramble-blocks c = search needs
@@ -42,7 +42,7 @@ returns-3 c =
     let a = c .before .before .before .before .before .before .before .before .before .before .before .before .args in (
       sym (not-refused 256 (a .octets .now) 256 (a .out .now) (omega arith) (omega arith)),
       c .before .before .descramble-blocks .ensures
-          ∙ ap (λ (x : List ℕ). laid x (a .out .now)) (descrambled-words (a .octets .now) (a .history) 32 (c .before .before .before .before .before .before .words-of .ensures))
+          ∙ ap (λ (x : List ℕ). laid x (a .out .now)) (descrambled-words (a .octets .now) (a .history) 32 _ refl (c .before .before .before .before .before .before .blocks-of .ensures))
           ∙ sym (answered 0 (descrambled (a .octets .now) (a .history) 256) (a .out .now) refl),
     )
 
@@ -52,8 +52,8 @@ descramble-multiblock-spec =
     (tie.spec
     returns
     returns-2
-    slice-aggregate-words-of
-    words-of-requires
+    slice-aggregate-blocks-of
+    blocks-of-requires
     slice-aggregate-descramble-blocks
     descramble-blocks-requires
     same-length
