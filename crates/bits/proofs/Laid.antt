@@ -11,10 +11,10 @@ use lib.ListN.{length, set, take, drop, length-append, length-drop, drop-of-leng
 use lib.Seq.{append-snoc, set-split, sets-eq, length-take-le, take-at, drop-at, take-all, drop-length, drop-append-add, drop-drop, take-append-seam}
 use lib.Pow.{shr-shr}
 use borrow.Rule.Slice.PartMut.{putMid, midOf, postOf, post-is}
-use Rattle.bits.specs.Order.{run, number, digit, octetsOf, laid, laidAt}
+use Rattle.bits.specs.Order.{listFrom, number, digit, octetsOf, laid, laidAt}
 use Rattle.bits.proofs.Choice.{pick-true, pick-false}
 use Rattle.bits.proofs.Numbers.{number-digit, number-ext, digit-number}
-use Rattle.bits.proofs.Runs.{length-run, run-append, run-ext}
+use Rattle.bits.proofs.Lists.{length-list, list-append, list-ext}
 use Rattle.bits.proofs.Octets.{length-octetsOf}
 
 pub length-laid : (new old : List ℕ) → length new ≤ length old → length (laid new old) ≡ length old
@@ -52,7 +52,7 @@ too-short new at old h =
 -- ---- octets stored one by one
 
 half-octets : (word : ℕ) → octetsOf (digit 32 word) 4 ≡ word / 2 ^ 24 % 256 ∷ word / 2 ^ 16 % 256 ∷ word / 2 ^ 8 % 256 ∷ word % 256 ∷ []
-unfolding octetsOf run
+unfolding octetsOf listFrom
 half-octets word =
     rw (number-digit 32 word 0 8 (lit≤ tt), number-digit 32 word 8 8 (lit≤ tt), number-digit 32 word 16 8 (lit≤ tt), number-digit 32 word 24 8 (lit≤ tt), div-one)
 
@@ -91,12 +91,12 @@ laidAt-join a b at old h =
 halves : (word : ℕ) → octetsOf (digit 32 (word / 2 ^ 32)) 4 ++ octetsOf (digit 32 word) 4 ≡ octetsOf (digit 64 word) 8
 unfolding octetsOf digit
 halves word =
-    let upper = run-ext (λ j. number (digit 32 (word / 2 ^ 32)) (8 * j) 8) (λ j. number (digit 64 word) (8 * j) 8) 0 0 4
+    let upper = list-ext (λ j. number (digit 32 (word / 2 ^ 32)) (8 * j) 8) (λ j. number (digit 64 word) (8 * j) 8) 0 0 4
     (λ j q. number-ext (digit 32 (word / 2 ^ 32)) (digit 64 word) (8 * (0 + j)) (8 * (0 + j)) 8
     (λ k l. ap (λ (x : ℕ). x % 2) (shr-shr word 32 (31 - (8 * (0 + j) + k)) ∙ ap (λ (x : ℕ). word / 2 ^ x) {x = 32 + (31 - (8 * (0 + j) + k))} {y = 63 - (8 * (0 + j) + k)} (omega arith)))) in
-    let lower = run-ext (λ j. number (digit 32 word) (8 * j) 8) (λ j. number (digit 64 word) (8 * j) 8) 0 4 4
+    let lower = list-ext (λ j. number (digit 32 word) (8 * j) 8) (λ j. number (digit 64 word) (8 * j) 8) 0 4 4
     (λ j q. number-ext (digit 32 word) (digit 64 word) (8 * (0 + j)) (8 * (4 + j)) 8 (λ k l. ap (λ (x : ℕ). word / 2 ^ x % 2) {x = 31 - (8 * (0 + j) + k)} {y = 63 - (8 * (4 + j) + k)} (omega arith))) in
-    ap₂ (λ (x y : List ℕ). x ++ y) upper lower ∙ sym (run-append (λ j. number (digit 64 word) (8 * j) 8) 0 4 4)
+    ap₂ (λ (x y : List ℕ). x ++ y) upper lower ∙ sym (list-append (λ j. number (digit 64 word) (8 * j) 8) 0 4 4)
 
 pub store : (word at : ℕ) (old : List ℕ) → at + 8 ≤ length old → laidAt (octetsOf (digit 32 word) 4) (at + 4) (laidAt (octetsOf (digit 32 (word / 2 ^ 32)) 4) at old) ≡ laidAt (octetsOf (digit 64 word) 8) at old
 store word at old h =
@@ -122,25 +122,25 @@ laid-set new old x h =
 module _ (f : ℕ → ℕ) where
   -- n octets of a stream, from octet k on
   abbrev octetsFrom : ℕ → ℕ → List ℕ
-  octetsFrom k n = run (λ j. number f (8 * j) 8) k n
+  octetsFrom k n = listFrom (λ j. number f (8 * j) 8) k n
 
   -- the next n octets of a stream, laid behind its first a
   laid-more : (a n : ℕ) (new old : List ℕ) → a + n ≤ length old → new ≡ octetsFrom a n → laidAt new a (laid (octetsOf f a) old) ≡ laid (octetsOf f (a + n)) old
   unfolding octetsOf
   laid-more a n new old h e =
-      let la = length-run (λ j. number f (8 * j) 8) 0 a in
-      let ln : length new ≡ n = ap length e ∙ length-run (λ j. number f (8 * j) 8) a n in
+      let la = length-list (λ j. number f (8 * j) 8) 0 a in
+      let ln : length new ≡ n = ap length e ∙ length-list (λ j. number f (8 * j) 8) a n in
       ap₂ (laidAt new) {x = a} {y = 0 + length (octetsFrom 0 a)} (omega arith) (sym (laid-start (octetsFrom 0 a) old (omega arith)))
       ∙ laidAt-join (octetsFrom 0 a) new 0 old (omega arith)
-      ∙ ap (λ (x : List ℕ). laidAt x 0 old) (ap (λ (x : List ℕ). octetsFrom 0 a ++ x) (e ∙ ap (λ (x : ℕ). octetsFrom x n) (sym (zero-add a))) ∙ sym (run-append (λ j. number f (8 * j) 8) 0 a n))
-      ∙ laid-start (octetsFrom 0 (a + n)) old (omega (arith, length-run (λ j. number f (8 * j) 8) 0 (a + n)))
+      ∙ ap (λ (x : List ℕ). laidAt x 0 old) (ap (λ (x : List ℕ). octetsFrom 0 a ++ x) (e ∙ ap (λ (x : ℕ). octetsFrom x n) (sym (zero-add a))) ∙ sym (list-append (λ j. number f (8 * j) 8) 0 a n))
+      ∙ laid-start (octetsFrom 0 (a + n)) old (omega (arith, length-list (λ j. number f (8 * j) 8) 0 (a + n)))
 
   module _ (d : (k : ℕ) → f k < 2) where
     -- the octets of a word of its bits
     word-from : (place word : ℕ) → word ≡ number f (8 * place) 64 → octetsOf (digit 64 word) 8 ≡ octetsFrom place 8
     unfolding octetsOf
     word-from place word e =
-        run-ext (λ j. number (digit 64 word) (8 * j) 8) (λ j. number f (8 * j) 8) 0 place 8
+        list-ext (λ j. number (digit 64 word) (8 * j) 8) (λ j. number f (8 * j) 8) 0 place 8
         (λ j q. number-ext (digit 64 word) f (8 * (0 + j)) (8 * (place + j)) 8
         (λ k l. ap (λ (x : ℕ). digit 64 x (8 * (0 + j) + k)) e ∙ digit-number f d (8 * place) 64 (8 * (0 + j) + k) (omega arith) ∙ ap f {x = 8 * place + (8 * (0 + j) + k)} {y = 8 * (place + j) + k} (omega arith)))
 
@@ -153,7 +153,7 @@ module _ (f : ℕ → ℕ) where
 
 -- nothing laid
 pub laid-none : (f : ℕ → ℕ) (old : List ℕ) → old ≡ laid (octetsOf f 0) old
-unfolding laid octetsOf run
+unfolding laid octetsOf listFrom
 laid-none f old = refl
 
 -- ---- a list that follows, written through the part of a buffer from a place on

@@ -3,7 +3,7 @@ pub mod Choice
 pub mod Xor
 pub mod Additive
 pub mod Numbers
-pub mod Runs
+pub mod Lists
 pub mod Words
 pub mod Tests
 pub mod Laid

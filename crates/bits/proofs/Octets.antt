@@ -8,18 +8,18 @@ use lib.ListN.{length, getD, take, drop, List·getD-append}
 use lib.Seq.{getD-take, getD-drop, length-take-le, ext-getD}
 use Rattle.bits.specs.Order.{bitAt, number, digit, octetsOf}
 use Rattle.bits.proofs.Numbers.{digit-number, number-ext, number-octet, bit-octet}
-use Rattle.bits.proofs.Runs.{run-ext, length-run, getD-run}
+use Rattle.bits.proofs.Lists.{list-ext, length-list, getD-list}
 
 -- ---- octets of a stream
 
 module _ (f : ℕ → ℕ) where
   pub length-octetsOf : (n : ℕ) → length (octetsOf f n) ≡ n
   unfolding octetsOf
-  length-octetsOf n = length-run (λ j. number f (8 * j) 8) 0 n
+  length-octetsOf n = length-list (λ j. number f (8 * j) 8) 0 n
 
   pub getD-octetsOf : (n j : ℕ) → j < n → getD (octetsOf f n) j 0 ≡ number f (8 * j) 8
   unfolding octetsOf
-  getD-octetsOf n j h = getD-run (λ j. number f (8 * j) 8) 0 n j h ∙ ap (λ (i : ℕ). number f (8 * i) 8) (zero-add j)
+  getD-octetsOf n j h = getD-list (λ j. number f (8 * j) 8) 0 n j h ∙ ap (λ (i : ℕ). number f (8 * i) 8) (zero-add j)
 
   pub bit-octetsOf : ((k : ℕ) → f k < 2) → (n k : ℕ) → k < 8 * n → bitAt (octetsOf f n) k ≡ f k
   unfolding digit
@@ -34,7 +34,7 @@ module _ (f : ℕ → ℕ) where
 pub octetsOf-ext : (f g : ℕ → ℕ) (n : ℕ) → ((k : ℕ) → k < 8 * n → f k ≡ g k) → octetsOf f n ≡ octetsOf g n
 unfolding octetsOf
 octetsOf-ext f g n h =
-    run-ext (λ j. number f (8 * j) 8) (λ j. number g (8 * j) 8) 0 0 n
+    list-ext (λ j. number f (8 * j) 8) (λ j. number g (8 * j) 8) 0 0 n
     (λ j l. number-ext f g (8 * (0 + j)) (8 * (0 + j)) 8 (λ i q. h (8 * (0 + j) + i) (omega arith)))
 
 -- ---- octets of their own bits

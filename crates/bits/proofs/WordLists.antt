@@ -5,9 +5,9 @@ use Prim.Native.Nat.{ℕ, zero, suc, _+_, _-_, _*_, _/_, _%_, _^_, _<_}
 use native.Mathlib.Nat.{zero-add, add-zero, add-suc, mod-eq-of-lt}
 use native.Mathlib.Omega.{arith}
 use lib.ListN.{length, getD, set}
-use Rattle.bits.specs.Order.{bitAt, run, bitsOf, number, digit, digits, octetsOf, wordBit, wordsOf, octetsIn, laid}
+use Rattle.bits.specs.Order.{bitAt, listFrom, bitsOf, number, digit, digits, octetsOf, wordBit, wordsOf, octetsIn, laid}
 use Rattle.bits.proofs.Numbers.{digit-lt, digit-number, number-ext, number-whole}
-use Rattle.bits.proofs.Runs.{run-ext, run-append, length-run, getD-run}
+use Rattle.bits.proofs.Lists.{list-ext, list-append, length-list, getD-list}
 use Rattle.bits.proofs.Octets.{length-octetsOf, bit-octetsOf, octetsOf-ext}
 use Rattle.bits.proofs.Laid.{laid-set}
 
@@ -40,32 +40,32 @@ module _ (words : List ℕ) where
   pub number-octetsIn : (i : ℕ) → i < length words → getD words i 0 < 2 ^ 64 → number (bitAt (octetsIn words)) (64 * i) 64 ≡ getD words i 0
   number-octetsIn i inside h = number-ext (bitAt (octetsIn words)) (wordBit words) (64 * i) (64 * i) 64 (λ j q. bit-octetsIn (64 * i + j) (omega arith)) ∙ number-word i h
 
-  pub bitsOf-octetsIn : bitsOf (octetsIn words) ≡ run (wordBit words) 0 (64 * length words)
+  pub bitsOf-octetsIn : bitsOf (octetsIn words) ≡ listFrom (wordBit words) 0 (64 * length words)
   unfolding bitsOf
   bitsOf-octetsIn =
-      ap (run (bitAt (octetsIn words)) 0) {x = 8 * length (octetsIn words)} {y = 64 * length words} (omega (arith, length-octetsIn))
-      ∙ run-ext (bitAt (octetsIn words)) (wordBit words) 0 0 (64 * length words) (λ j h. bit-octetsIn (0 + j) (omega arith))
+      ap (listFrom (bitAt (octetsIn words)) 0) {x = 8 * length (octetsIn words)} {y = 64 * length words} (omega (arith, length-octetsIn))
+      ∙ list-ext (bitAt (octetsIn words)) (wordBit words) 0 0 (64 * length words) (λ j h. bit-octetsIn (0 + j) (omega arith))
 
 -- words of a stream
 module _ (f : ℕ → ℕ) where
   pub length-wordsOf : (n : ℕ) → length (wordsOf f n) ≡ n
   unfolding wordsOf
-  length-wordsOf n = length-run (λ i. number f (64 * i) 64) 0 n
+  length-wordsOf n = length-list (λ i. number f (64 * i) 64) 0 n
 
   pub getD-wordsOf : (n i : ℕ) → i < n → getD (wordsOf f n) i 0 ≡ number f (64 * i) 64
   unfolding wordsOf
-  getD-wordsOf n i h = getD-run (λ i. number f (64 * i) 64) 0 n i h ∙ ap (λ (x : ℕ). number f (64 * x) 64) (zero-add i)
+  getD-wordsOf n i h = getD-list (λ i. number f (64 * i) 64) 0 n i h ∙ ap (λ (x : ℕ). number f (64 * x) 64) (zero-add i)
 
   -- laid over others: none, and one more stored
   pub words-none : (old : List ℕ) → old ≡ laid (wordsOf f 0) old
-  unfolding laid wordsOf run
+  unfolding laid wordsOf listFrom
   words-none old = refl
 
   pub words-more : (i word : ℕ) (old : List ℕ) → i < length old → word ≡ number f (64 * i) 64 → set (laid (wordsOf f i) old) i word ≡ laid (wordsOf f (i + 1)) old
   words-more i word old h e =
       ap (λ (x : ℕ). set (laid (wordsOf f i) old) x word) (sym (length-wordsOf i))
       ∙ laid-set (wordsOf f i) old word (omega (arith, length-wordsOf i))
-      ∙ ap (λ (x : List ℕ). laid x old) (unfold wordsOf run in (ap (λ (x : ℕ). wordsOf f i ++ x ∷ []) (e ∙ ap (λ (x : ℕ). number f (64 * x) 64) (sym (zero-add i))) ∙ sym (run-append (λ i. number f (64 * i) 64) 0 i 1)))
+      ∙ ap (λ (x : List ℕ). laid x old) (unfold wordsOf listFrom in (ap (λ (x : ℕ). wordsOf f i ++ x ∷ []) (e ∙ ap (λ (x : ℕ). number f (64 * x) 64) (sym (zero-add i))) ∙ sym (list-append (λ i. number f (64 * i) 64) 0 i 1)))
 
   module _ (bits : (k : ℕ) → f k < 2) where
     pub bit-wordsOf : (n k : ℕ) → k < 64 * n → wordBit (wordsOf f n) k ≡ f k

@@ -11,13 +11,13 @@ unfoldable pub bitAt : List ℕ → ℕ → ℕ
 bitAt octets k = getD octets (k / 8) 0 / 2 ^ (7 - k % 8) % 2
 
 -- the n bits of a stream from place k on, as a list
-unfoldable pub run : (ℕ → ℕ) → ℕ → ℕ → List ℕ
-run f k zero = []
-run f k (suc n) = f k ∷ run f (suc k) n
+unfoldable pub listFrom : (ℕ → ℕ) → ℕ → ℕ → List ℕ
+listFrom f k zero = []
+listFrom f k (suc n) = f k ∷ listFrom f (suc k) n
 
 -- all bits of some octets
 unfoldable pub bitsOf : List ℕ → List ℕ
-bitsOf octets = run (bitAt octets) 0 (8 * length octets)
+bitsOf octets = listFrom (bitAt octets) 0 (8 * length octets)
 
 -- the n bits of a stream from place k on, as a number: the first is the highest
 unfoldable pub number : (ℕ → ℕ) → ℕ → ℕ → ℕ
@@ -34,7 +34,7 @@ digits (suc n) v = v / 2 ^ n % 2 ∷ digits n v
 
 -- n octets made of a stream's bits
 unfoldable pub octetsOf : (ℕ → ℕ) → ℕ → List ℕ
-octetsOf f n = run (λ j. number f (8 * j) 8) 0 n
+octetsOf f n = listFrom (λ j. number f (8 * j) 8) 0 n
 
 -- bit k of some words of 64 bits, the highest first; 0 past their end
 unfoldable pub wordBit : List ℕ → ℕ → ℕ
@@ -42,7 +42,7 @@ wordBit words k = digit 64 (getD words (k / 64) 0) (k % 64)
 
 -- n words of 64 bits made of a stream's bits
 unfoldable pub wordsOf : (ℕ → ℕ) → ℕ → List ℕ
-wordsOf f n = run (λ i. number f (64 * i) 64) 0 n
+wordsOf f n = listFrom (λ i. number f (64 * i) 64) 0 n
 
 -- the octets that some words of 64 bits hold
 unfoldable pub octetsIn : List ℕ → List ℕ

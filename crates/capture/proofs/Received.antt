@@ -17,12 +17,12 @@ use Rattle.receiver.specs.declared.Receiver.{Receiver}
 use Rattle.receiver.specs.declared.Received.{Received}
 use Rattle.receiver.specs.Release.{Release, Step, fresh, run}
 use Rattle.receiver.specs.Entry.{entry, laidOut}
-use Rattle.receiver.specs.Entry.{listed as listedBy}
+use Rattle.receiver.specs.Entry.{column}
 use Rattle.receiver.specs.Entry.{Done as Kept}
 use Rattle.receiver.specs.Entry.{done as kept}
 use Rattle.receiver.specs.Turn.{Room}
-use Rattle.receiver.proofs.Buffers.{listed-length}
-use Rattle.receiver.proofs.Afresh.{all-received, all-but-one, listed-at}
+use Rattle.receiver.proofs.Buffers.{column-length}
+use Rattle.receiver.proofs.Afresh.{all-received, all-but-one, column-at}
 use Rattle.text.specs.declared.Written.{Written}
 use Rattle.text.specs.Text.{headLine, releaseLine}
 use Rattle.text.specs.Writing.{linesOf, written}
@@ -52,13 +52,13 @@ nothing = record { octets = []; status = 0; command = 0; place = 0; pattern = 0 
 
 module _ (out : List Release) where
   abbrev statuses : List ℕ
-  statuses = listedBy (λ (r : Release). r .status) out
+  statuses = column (λ (r : Release). r .status) out
 
   abbrev places : List ℕ
-  places = listedBy (λ (r : Release). r .place) out
+  places = column (λ (r : Release). r .place) out
 
   abbrev patterns : List ℕ
-  patterns = listedBy (λ (r : Release). r .pattern) out
+  patterns = column (λ (r : Release). r .pattern) out
 
   first-lines : (k : ℕ) → k ≤ length out → linesOf k statuses places patterns ≡ lines 0 (take k out)
   unfolding lines
@@ -68,7 +68,7 @@ module _ (out : List Release) where
       let here : length (take k out) ≡ k = length-take-le k out (omega arith) in
       ap (λ (x : ℕ). linesOf x statuses places patterns) {x = suc k} {y = k + 1} (omega arith)
       ∙ lines-next k statuses places patterns
-      ∙ rw (first-lines k (omega arith), listed-at (λ (r : Release). r .status) out k nothing (omega arith), listed-at (λ (r : Release). r .place) out k nothing (omega arith), listed-at (λ (r : Release). r .pattern) out k nothing (omega arith))
+      ∙ rw (first-lines k (omega arith), column-at (λ (r : Release). r .status) out k nothing (omega arith), column-at (λ (r : Release). r .place) out k nothing (omega arith), column-at (λ (r : Release). r .pattern) out k nothing (omega arith))
       (ap (λ (x : ℕ). lines 0 (take k out) ++ releaseLine x (r .status) (r .place) (r .pattern)) (sym here ∙ sym (zero-add (length (take k out))))
       ∙ sym (lines-last 0 (take k out) r)
       ∙ ap (lines 0) (sym (take-suc out k nothing (omega arith))))
@@ -79,7 +79,7 @@ module _ (out : List Release) where
   text-of-lists : (mode E received : ℕ) → writtenText mode E received statuses places patterns ≡ headLine mode E received (length out) ++ lines 0 out
   text-of-lists mode E received =
       text-is mode E received statuses places patterns
-      ∙ ap (λ (x : ℕ). headLine mode E received x ++ linesOf x statuses places patterns) (listed-length (λ (r : Release). r .status) out)
+      ∙ ap (λ (x : ℕ). headLine mode E received x ++ linesOf x statuses places patterns) (column-length (λ (r : Release). r .status) out)
       ∙ ap (λ (x : List ℕ). headLine mode E received (length out) ++ x) all-lines
 
 -- ---- what is received of a lane
@@ -101,8 +101,8 @@ module _ (mode : ℕ) (lane : List ℕ) (known : mode ≤ 1) (entire : length la
   number : r .count ≡ length out
   number = ap (λ (x : Kept). x .answer .count) is-run
 
-  taken : (f : Release → ℕ) (old new : List ℕ) → new ≡ laid (listedBy f out) old → take (r .count) new ≡ listedBy f out
-  taken f old new h = rw (h, number, ← listed-length f out) (taken-back (listedBy f out) old)
+  taken : (f : Release → ℕ) (old new : List ℕ) → new ≡ laid (column f out) old → take (r .count) new ≡ column f out
+  taken f old new h = rw (h, number, ← column-length f out) (taken-back (column f out) old)
 
   pub lists : Lists (releasesOf mode lane) (r .count) s′ p′ q′
   lists = rw (← releases-are mode lane) (record {
@@ -120,10 +120,10 @@ listing-of d = done (record { refusal = d .answer .refusal; count = d .answer .c
 
 module _ (out : List Release) (few : length out ≤ 240) (mode E received : ℕ) (text : List ℕ) where
   few-listed : length (statuses out) ≤ 240
-  few-listed = omega (arith, few, listed-length (λ (r : Release). r .status) out)
+  few-listed = omega (arith, few, column-length (λ (r : Release). r .status) out)
 
-  as-many : (f g : Release → ℕ) → length (listedBy f out) ≡ length (listedBy g out)
-  as-many f g = listed-length f out ∙ sym (listed-length g out)
+  as-many : (f g : Release → ℕ) → length (column f out) ≡ length (column g out)
+  as-many f g = column-length f out ∙ sym (column-length g out)
 
   all-listed : listing-of (written mode E received (statuses out) (places out) (patterns out) text) ≡ laidOver (writtenText mode E received (statuses out) (places out) (patterns out)) text
   unfolding laidOver

@@ -8,7 +8,7 @@ use Rattle.bits.specs.Order.{bitAt}
 use Rattle.frame.specs.Modes.{row}
 use Rattle.frame.specs.Lane.{laneOctets}
 use Rattle.receiver.specs.Release.{Release, Step, fresh, run}
-use Rattle.receiver.specs.Entry.{listed as listedBy}
+use Rattle.receiver.specs.Entry.{column}
 use Rattle.text.specs.Text.{headLine}
 use Rattle.capture.specs.Listing.{lines}
 
@@ -20,9 +20,9 @@ releasesOf mode lane = run (row mode) (bitAt lane) fresh (length lane / laneOcte
 pub record Lists (out : List Release) (count : ℕ) (s p q : List ℕ) : Type 0 where
   pub few : count ≤ 240
   pub number : count ≡ length out
-  pub statuses : take count s ≡ listedBy (λ (r : Release). r .status) out
-  pub places : take count p ≡ listedBy (λ (r : Release). r .place) out
-  pub patterns : take count q ≡ listedBy (λ (r : Release). r .pattern) out
+  pub statuses : take count s ≡ column (λ (r : Release). r .status) out
+  pub places : take count p ≡ column (λ (r : Release). r .place) out
+  pub patterns : take count q ≡ column (λ (r : Release). r .pattern) out
 
 -- the text of a lane
 unfoldable pub laneText : ℕ → ℕ → List ℕ → List ℕ

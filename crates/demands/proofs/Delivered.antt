@@ -26,11 +26,11 @@ use Rattle.frame.proofs.SyncWord.{Stands}
 use Rattle.frame.proofs.Places.{data-is, data-octets-bit}
 use Rattle.receiver.specs.declared.Receiver.{Receiver}
 use Rattle.judge.specs.declared.Verdict.{Verdict}
-use Rattle.judge.specs.Judge.{agrees, failed, judged, mended, marked, trustedAfter}
+use Rattle.judge.specs.Judge.{agrees, failed, judged, mended, releasedStatus, trustedAfter}
 use Rattle.receiver.specs.Release.{releaseAt}
 use Rattle.judge.specs.Sound.{sound}
 use Rattle.receiver.proofs.Numbered.{waiting, verdict, whole, verdict-is, whole-is, octets-are, status-is, first-trusted, next-history, next-trusted}
-use Rattle.judge.proofs.Judging.{judged-sound, judged-failed, judged-burst, mended-bit, mended-none, marked-trusted, marked-untrusted, trusted-after, untrusted-after, Believed, believed}
+use Rattle.judge.proofs.Judging.{judged-sound, judged-failed, judged-burst, mended-bit, mended-none, status-trusted, status-untrusted, trusted-after, untrusted-after, Believed, believed}
 use Rattle.demands.specs.Damage.{Pairwise}
 use Rattle.demands.proofs.Wrong as W
 use Rattle.demands.proofs.Sent.{Sends}
@@ -249,19 +249,19 @@ module _ (R : Row) (lanes : Lanes R) where
       pub hit-status : (i q : ℕ) → suc i < n → q < 2048 → bitXor (a (dataPlace (R .gap) i q)) (b (dataPlace (R .gap) i q)) ≡ 1 → (status i ≡ 2) ⊎ (status i ≡ 6)
       hit-status i q l h e = by (waiting R b i .trusted) refl
         where
-          is-failed : status i ≡ marked failed (waiting R b i .trusted)
-          is-failed = status-is R b i ∙ ap (λ (v : Verdict). marked v (waiting R b i .trusted)) (crc-hit i l notices narrow q h e)
+          is-failed : status i ≡ releasedStatus failed (waiting R b i .trusted)
+          is-failed = status-is R b i ∙ ap (λ (v : Verdict). releasedStatus v (waiting R b i .trusted)) (crc-hit i l notices narrow q h e)
 
           by : (t : Bool) → waiting R b i .trusted ≡ t → (status i ≡ 2) ⊎ (status i ≡ 6)
-          by true t = inl (is-failed ∙ ap (marked failed) t ∙ marked-trusted failed)
-          by false t = inr (is-failed ∙ ap (marked failed) t ∙ marked-untrusted failed)
+          by true t = inl (is-failed ∙ ap (releasedStatus failed) t ∙ status-trusted failed)
+          by false t = inr (is-failed ∙ ap (releasedStatus failed) t ∙ status-untrusted failed)
 
       pub untouched-status : (i : ℕ) → suc (suc i) < n
           → ((x : ℕ) → 8 * laneOctets (R .gap) * i ≤ x → x < 8 * laneOctets (R .gap) * (i + 3) → bitXor (a x) (b x) ≡ 0) → status (suc i) ≡ 0
       untouched-status i l z =
           status-is R b (suc i)
-          ∙ ap₂ marked own (next-trusted R b i ∙ ap trustedAfter before ∙ trusted-after agrees (λ e. absurd (omega arith)))
-          ∙ marked-trusted agrees
+          ∙ ap₂ releasedStatus own (next-trusted R b i ∙ ap trustedAfter before ∙ trusted-after agrees (λ e. absurd (omega arith)))
+          ∙ status-trusted agrees
         where
           own : verdict R b (suc i) ≡ agrees
           own = untouched (suc i) l (λ x h k. z x (omega (arith, mul-suc (8 * laneOctets (R .gap)) i)) (omega (arith, later)))

@@ -11,18 +11,18 @@ use Rattle.bits.specs.Order.{bitAt, laid}
 use Rattle.bits.proofs.Octets.{bit-drop, bit-append}
 use Rattle.bits.proofs.Laid.{taken-back}
 use Rattle.frame.specs.Modes.{Row, row, parity, command}
-use Rattle.frame.specs.Lane.{laneOctets, headerPlace, dataPlace, dataBit, headerAt, syncBit, spoiltBit}
-use Rattle.frame.specs.SyncWord.{readParity, markedCommand}
-use Rattle.frame.proofs.SyncWord.{Stands, place, row-stands, only-parity, only-marked}
-use Rattle.frame.proofs.Lane.{laneFrom, same-sync, same-spoilt}
+use Rattle.frame.specs.Lane.{laneOctets, headerPlace, dataPlace, dataBit, headerAt, syncBit, invalidBit}
+use Rattle.frame.specs.SyncWord.{readParity, flaggedCommand}
+use Rattle.frame.proofs.SyncWord.{Stands, place, row-stands, only-parity, only-flagged}
+use Rattle.frame.proofs.Lane.{laneFrom, same-sync, same-invalid}
 use Rattle.frame.proofs.Places.{data-is, header-same}
 use Rattle.receiver.specs.declared.Receiver.{Receiver}
 use Rattle.receiver.specs.Release.{Release, Step, run}
-use Rattle.receiver.specs.Entry.{Done, octetsOut, listed, laidOut}
+use Rattle.receiver.specs.Entry.{Done, octetsOut, column, laidOut}
 use Rattle.receiver.proofs.Cut.{then, same-reading, run-cut}
 use Rattle.receiver.proofs.Answers.{all-run, all-whole}
-use Rattle.receiver.proofs.Buffers.{listed-length}
-use Rattle.receiver.proofs.Numbered.{octets-append, listed-append, none-out, none-listed, all-full}
+use Rattle.receiver.proofs.Buffers.{column-length}
+use Rattle.receiver.proofs.Numbered.{octets-append, column-append, none-out, none-column, all-full}
 use Rattle.demands.specs.Calls.{Receiving, receiving, laneHeard, AllHeard, octetsReleased, statusesReleased}
 use Rattle.demands.proofs.Places.{octets-some, data-inside, header-inside}
 
@@ -71,11 +71,11 @@ module _ (mode : ℕ) where
         same-parity m h = only-parity R _ _ (λ j l. sync m (place R (parity j)) h (stands .parities j l))
 
         same-command : (m : ℕ) → m < k
-            → markedCommand R (syncBit (R .gap) (bitAt (a ++ b)) m) (spoiltBit (R .gap) (bitAt (a ++ b)) m) ≡ markedCommand R (syncBit (R .gap) (bitAt a) m) (spoiltBit (R .gap) (bitAt a) m)
+            → flaggedCommand R (syncBit (R .gap) (bitAt (a ++ b)) m) (invalidBit (R .gap) (bitAt (a ++ b)) m) ≡ flaggedCommand R (syncBit (R .gap) (bitAt a) m) (invalidBit (R .gap) (bitAt a) m)
         same-command m h =
-            only-marked R (syncBit (R .gap) (bitAt (a ++ b)) m) (syncBit (R .gap) (bitAt a) m) (spoiltBit (R .gap) (bitAt (a ++ b)) m) (spoiltBit (R .gap) (bitAt a) m)
+            only-flagged R (syncBit (R .gap) (bitAt (a ++ b)) m) (syncBit (R .gap) (bitAt a) m) (invalidBit (R .gap) (bitAt (a ++ b)) m) (invalidBit (R .gap) (bitAt a) m)
             (λ j l. sync m (place R (command j)) h (stands .commands j l))
-            (λ j l. same-spoilt (R .gap) (bitAt (a ++ b)) (bitAt a) m (place R (command j)) (same-header m (place R (command j)) h (stands .commands j l)))
+            (λ j l. same-invalid (R .gap) (bitAt (a ++ b)) (bitAt a) m (place R (command j)) (same-header m (place R (command j)) h (stands .commands j l)))
 
     -- a run over both
     both : (s : Receiver) (n : ℕ) → run R (bitAt (a ++ b)) s (k + n) ≡ then (run R (bitAt a) s k) (run R (bitAt b) (run R (bitAt a) s k .state) n)
@@ -89,7 +89,7 @@ module _ (mode : ℕ) where
   pub record AllRun (s : Receiver) (calls : List Receiving) : Type 0 where
     pub whole : length (laneHeard calls) ≡ L * (length (laneHeard calls) / L)
     pub octets : octetsReleased mode s calls ≡ octetsOut (run R (bitAt (laneHeard calls)) s (length (laneHeard calls) / L) .out)
-    pub statuses : statusesReleased mode s calls ≡ listed status (run R (bitAt (laneHeard calls)) s (length (laneHeard calls) / L) .out)
+    pub statuses : statusesReleased mode s calls ≡ column status (run R (bitAt (laneHeard calls)) s (length (laneHeard calls) / L) .out)
 
   module _ (s : Receiver) (c : Receiving) (z : receiving mode s c .answer .refusal ≡ 0) where
     k : ℕ
@@ -112,11 +112,11 @@ module _ (mode : ℕ) where
         ∙ ap (λ (n : ℕ). take n (laid (octetsOut (ran .out)) (c .octets))) (sym (all-full R (bitAt (c .lane)) s k))
         ∙ taken-back (octetsOut (ran .out)) (c .octets)
 
-    statuses-taken : take (receiving mode s c .answer .count) (receiving mode s c .statuses) ≡ listed status (ran .out)
+    statuses-taken : take (receiving mode s c .answer .count) (receiving mode s c .statuses) ≡ column status (ran .out)
     statuses-taken =
         ap (λ (d : Done). take (d .answer .count) (d .statuses)) is
-        ∙ ap (λ (n : ℕ). take n (laid (listed status (ran .out)) (c .statuses))) (sym (listed-length status (ran .out)))
-        ∙ taken-back (listed status (ran .out)) (c .statuses)
+        ∙ ap (λ (n : ℕ). take n (laid (column status (ran .out)) (c .statuses))) (sym (column-length status (ran .out)))
+        ∙ taken-back (column status (ran .out)) (c .statuses)
 
     module _ (calls : List Receiving) (rest : AllRun (receiving mode s c .answer .state) calls) where
       n : ℕ
@@ -149,9 +149,9 @@ module _ (mode : ℕ) where
             ∙ sym (octets-append (ran .out) (more .out))
             ∙ ap octetsOut (sym out-is);
         statuses =
-            ap₂ _++_ statuses-taken (rest .statuses ∙ ap (λ (x : Step). listed status (x .out)) state-is)
-            ∙ sym (listed-append status (ran .out) (more .out))
-            ∙ ap (listed status) (sym out-is);
+            ap₂ _++_ statuses-taken (rest .statuses ∙ ap (λ (x : Step). column status (x .out)) state-is)
+            ∙ sym (column-append status (ran .out) (more .out))
+            ∙ ap (column status) (sym out-is);
       }
 
   pub all-calls : (s : Receiver) (calls : List Receiving) → AllHeard mode s calls → AllRun s calls
@@ -163,6 +163,6 @@ module _ (mode : ℕ) where
       octets : [] ≡ octetsOut (run R (bitAt []) s (0 / L) .out)
       octets = sym (ap (λ (n : ℕ). octetsOut (run R (bitAt []) s n .out)) none ∙ none-out R (bitAt []) s)
 
-      statuses : [] ≡ listed status (run R (bitAt []) s (0 / L) .out)
-      statuses = sym (ap (λ (n : ℕ). listed status (run R (bitAt []) s n .out)) none ∙ none-listed status R (bitAt []) s)
+      statuses : [] ≡ column status (run R (bitAt []) s (0 / L) .out)
+      statuses = sym (ap (λ (n : ℕ). column status (run R (bitAt []) s n .out)) none ∙ none-column status R (bitAt []) s)
   all-calls s (c ∷ calls) h = with-call s c (h .0) calls (all-calls (receiving mode s c .answer .state) calls (h .1))

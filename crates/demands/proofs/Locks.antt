@@ -16,7 +16,7 @@ use Rattle.frame.specs.Headers.{carries, headerOf}
 use Rattle.frame.specs.Lane.{headerAt}
 use Rattle.frame.specs.SyncWord.{held}
 use Rattle.frame.proofs.SyncWord.{fieldAt, held-lt}
-use Rattle.frame.proofs.Lane.{carried, unspoilt}
+use Rattle.frame.proofs.Lane.{carried, header-valid}
 use Rattle.frame.proofs.Sizes.{row-octets}
 use Rattle.sender.specs.declared.Sender.{Sender}
 use Rattle.sender.specs.Lane.{last, lane}
@@ -55,7 +55,7 @@ module _ (E : ℕ) (s : Sender) (user commands : List ℕ) (given : 256 * length
   undamaged : Crc12Headers E start (λ x. headerOf (sync x))
   unfolding sync mark
   undamaged = record {
-    sound = λ x. unspoilt (sync x) (sync-lt x);
+    valid = λ x. header-valid (sync x) (sync-lt x);
     sync =
         words-fit E start some (λ m. state (m - s .number) .parity) (λ m. getD commands (m - s .number) 0) mark (λ x. carries (headerOf (sync x)))
         (λ m e. ap bitOf (eq-eqb (m % E + 1) E (omega arith)))

@@ -16,8 +16,8 @@ use Rattle.frame.proofs.Sizes.{row-proper}
 use Rattle.sender.proofs.Runs.{lane-length}
 use Rattle.receiver.specs.Release.{Release, fresh, releaseAt, run}
 use Rattle.receiver.proofs.Afresh.{all-but-one}
-use Rattle.receiver.proofs.Buffers.{listed-length, release-length}
-use Rattle.receiver.proofs.Numbered.{nth, waiting, numbered, octet-at, listed-at}
+use Rattle.receiver.proofs.Buffers.{column-length, release-length}
+use Rattle.receiver.proofs.Numbered.{nth, waiting, numbered, octet-at, column-at}
 use Rattle.demands.specs.Calls.{userOctets, laneSent, laneHeard}
 use Rattle.demands.specs.Transfer.{Transfer, flips, DamagedBy, releases, released, status}
 use Rattle.demands.specs.Damage.{Pairwise}
@@ -97,7 +97,7 @@ module _ {mode E : ℕ} (t : Transfer mode E) where
   pub all-released : (i : ℕ) → i < releases t → suc i < count
   unfolding out
   all-released i h =
-      let e : releases t ≡ length out = ap length (all-run .statuses) ∙ listed-length (λ (r : Release). r .status) out in
+      let e : releases t ≡ length out = ap length (all-run .statuses) ∙ column-length (λ (r : Release). r .status) out in
       omega (arith, out-length)
 
   module _ (i : ℕ) (l : suc i < count) where
@@ -111,7 +111,7 @@ module _ {mode E : ℕ} (t : Transfer mode E) where
     unfolding out
     status-at =
         ap (λ (x : List ℕ). getD x i 0) (all-run .statuses)
-        ∙ listed-at (λ (r : Release). r .status) out i (omega (arith, out-length))
+        ∙ column-at (λ (r : Release). r .status) out i (omega (arith, out-length))
         ∙ ap (λ (r : Release). r .status) (at i l)
 
     pub octet-released : (j : ℕ) → j < 256 → released t i j ≡ getD (releaseAt R after (suc i) (waiting R after i) .octets) j 0

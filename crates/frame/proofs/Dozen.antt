@@ -3,7 +3,7 @@ use mathlib.Core.Path.{_≡_, sym, ap, _∙_}
 use mathlib.Core.Bool.{Bool, true, _&&_}
 use mathlib.Core.List.{List, [], _∷_, List·Memᴰ, List·Memᴰ·head, List·Memᴰ·tail}
 use lib.Dec.{T, eqb, eqb→eq}
-use Rattle.bits.specs.Order.{run, number}
+use Rattle.bits.specs.Order.{listFrom, number}
 use Rattle.bits.proofs.Tests.{left, right}
 use Rattle.scrambler.specs.Scrambling.{sentBit, allSent, sent}
 use Rattle.polynomial.specs.Polynomial.{scale, timesX}
@@ -16,7 +16,7 @@ right-all [] = true
 right-all (c ∷ l) = eqb (found c) (wanted c) && right-all l
 
 computed : T (right-all dozen)
-unfolding number sent allSent sentBit remainder remainderFrom next scale timesX run syncWord held
+unfolding number sent allSent sentBit remainder remainderFrom next scale timesX listFrom syncWord held
 computed = tt
 
 shown : (l : List Case) → T (right-all l) → (c : Case) → List·Memᴰ c l → found c ≡ wanted c

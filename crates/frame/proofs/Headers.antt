@@ -6,7 +6,7 @@ use borrow.Author.Tests.{eqb-true, eq-eqb, ne-eqb}
 use lib.Dec.{eqb}
 use Rattle.bits.specs.Choice.{pick}
 use Rattle.bits.proofs.Choice.{pick-both}
-use Rattle.frame.specs.Headers.{carries, spoilt}
+use Rattle.frame.specs.Headers.{carries, invalid}
 
 pub carries-lt : (v : ℕ) → carries v < 2
 unfolding carries
@@ -20,20 +20,20 @@ pub carries-zero : (v : ℕ) → (v ≡ 1 → ⊥) → carries v ≡ 0
 unfolding carries
 carries-zero v n = simp (ne-eqb v 1 n)
 
-pub sound-01 : (v : ℕ) → v ≡ 1 → spoilt v ≡ 0
-unfolding spoilt
-sound-01 v e = simp (eq-eqb v 1 e)
+pub valid-01 : (v : ℕ) → v ≡ 1 → invalid v ≡ 0
+unfolding invalid
+valid-01 v e = simp (eq-eqb v 1 e)
 
-pub sound-10 : (v : ℕ) → v ≡ 2 → spoilt v ≡ 0
-unfolding spoilt
-sound-10 v e = ap spoilt e
+pub valid-10 : (v : ℕ) → v ≡ 2 → invalid v ≡ 0
+unfolding invalid
+valid-10 v e = ap invalid e
 
-pub not-sound : (v : ℕ) → (v ≡ 1 → ⊥) → (v ≡ 2 → ⊥) → spoilt v ≡ 1
-unfolding spoilt
-not-sound v n m = simp (ne-eqb v 1 n, ne-eqb v 2 m)
+pub not-valid : (v : ℕ) → (v ≡ 1 → ⊥) → (v ≡ 2 → ⊥) → invalid v ≡ 1
+unfolding invalid
+not-valid v n m = simp (ne-eqb v 1 n, ne-eqb v 2 m)
 
-pub sound-le : (v : ℕ) → spoilt v ≡ 0 → v ≤ 3
-unfolding spoilt
-sound-le v =
+pub valid-le : (v : ℕ) → invalid v ≡ 0 → v ≤ 3
+unfolding invalid
+valid-le v =
     pick-both (λ (x : ℕ). x ≡ 0 → v ≤ 3) (eqb v 1) 0 (pick (eqb v 2) 0 1) (λ e z. omega (arith, eqb-true v 1 e))
     (λ _. pick-both (λ (x : ℕ). x ≡ 0 → v ≤ 3) (eqb v 2) 0 1 (λ e z. omega (arith, eqb-true v 2 e)) (λ e z. absurd (omega arith)))

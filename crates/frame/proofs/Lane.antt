@@ -14,8 +14,8 @@ use Rattle.bits.specs.Order.{bitAt, digit}
 use Rattle.bits.proofs.Xor.{bit-cases}
 use Rattle.bits.proofs.Numbers.{bitAt-lt, digit-lt}
 use Rattle.bits.proofs.Octets.{length-octetsOf, bit-octetsOf, octetsOf-ext, octetsOf-bits}
-use Rattle.frame.specs.Headers.{value, carries, spoilt, headerOf}
-use Rattle.frame.specs.Lane.{blockWidth, laneOctets, headerPlace, dataPlace, dataBit, headerAt, syncBit, spoiltBit, dataOctets, blockBit, multiblockBit, multiblock}
+use Rattle.frame.specs.Headers.{value, carries, invalid, headerOf}
+use Rattle.frame.specs.Lane.{blockWidth, laneOctets, headerPlace, dataPlace, dataBit, headerAt, syncBit, invalidBit, dataOctets, blockBit, multiblockBit, multiblock}
 
 -- ---- a place of a run of blocks: its block, and where in the block
 
@@ -96,9 +96,9 @@ pub syncBit-lt : (gap : ℕ) (lane : ℕ → ℕ) (m t : ℕ) → syncBit gap la
 unfolding syncBit carries
 syncBit-lt gap lane m t = pick-lt (eqb (headerAt gap lane m t) 1) (omega arith) (omega arith)
 
-pub spoiltBit-lt : (gap : ℕ) (lane : ℕ → ℕ) (m t : ℕ) → spoiltBit gap lane m t < 2
-unfolding spoiltBit spoilt
-spoiltBit-lt gap lane m t = pick-lt (eqb (headerAt gap lane m t) 1) (omega arith) (pick-lt (eqb (headerAt gap lane m t) 2) (omega arith) (omega arith))
+pub invalidBit-lt : (gap : ℕ) (lane : ℕ → ℕ) (m t : ℕ) → invalidBit gap lane m t < 2
+unfolding invalidBit invalid
+invalidBit-lt gap lane m t = pick-lt (eqb (headerAt gap lane m t) 1) (omega arith) (pick-lt (eqb (headerAt gap lane m t) 2) (omega arith) (omega arith))
 
 -- ---- what was written reads back
 
@@ -110,9 +110,9 @@ pub carried : (b : ℕ) → b < 2 → carries (headerOf b) ≡ b
 unfolding carries headerOf
 carried b h = bit-cases (λ (b : ℕ). carries (headerOf b) ≡ b) refl refl b h
 
-pub unspoilt : (b : ℕ) → b < 2 → spoilt (headerOf b) ≡ 0
-unfolding spoilt headerOf
-unspoilt b h = bit-cases (λ (b : ℕ). spoilt (headerOf b) ≡ 0) refl refl b h
+pub header-valid : (b : ℕ) → b < 2 → invalid (headerOf b) ≡ 0
+unfolding invalid headerOf
+header-valid b h = bit-cases (λ (b : ℕ). invalid (headerOf b) ≡ 0) refl refl b h
 
 -- a lane that begins with a multiblock
 module _ (gap sync : ℕ) (octets : List ℕ) (lane : ℕ → ℕ) (begins : (x : ℕ) → x < 8 * laneOctets gap → lane x ≡ multiblockBit gap sync octets x) where
@@ -143,9 +143,9 @@ module _ (gap sync : ℕ) (octets : List ℕ) (lane : ℕ → ℕ) (begins : (x 
   unfolding syncBit
   sync-back t h = ap carries (header-back t h) ∙ carried (digit 32 sync t) (digit-lt 32 sync t)
 
-  pub unspoilt-back : (t : ℕ) → t < 32 → spoiltBit gap lane 0 t ≡ 0
-  unfolding spoiltBit
-  unspoilt-back t h = ap spoilt (header-back t h) ∙ unspoilt (digit 32 sync t) (digit-lt 32 sync t)
+  pub valid-back : (t : ℕ) → t < 32 → invalidBit gap lane 0 t ≡ 0
+  unfolding invalidBit
+  valid-back t h = ap invalid (header-back t h) ∙ header-valid (digit 32 sync t) (digit-lt 32 sync t)
 
   pub octets-back : ((j : ℕ) → j < 256 → getD octets j 0 < 256) → 256 ≤ length octets → dataOctets gap lane 0 ≡ take 256 octets
   unfolding dataOctets
@@ -176,9 +176,9 @@ module _ (gap : ℕ) (lane : ℕ → ℕ) (m : ℕ) where
   unfolding syncBit
   sync-moved t = ap carries (header-at-moved t)
 
-  pub spoilt-moved : (t : ℕ) → spoiltBit gap lane m t ≡ spoiltBit gap (laneFrom gap lane m) 0 t
-  unfolding spoiltBit
-  spoilt-moved t = ap spoilt (header-at-moved t)
+  pub invalid-moved : (t : ℕ) → invalidBit gap lane m t ≡ invalidBit gap (laneFrom gap lane m) 0 t
+  unfolding invalidBit
+  invalid-moved t = ap invalid (header-at-moved t)
 
   pub octets-moved : dataOctets gap lane m ≡ dataOctets gap (laneFrom gap lane m) 0
   unfolding dataOctets
@@ -196,9 +196,9 @@ module _ (gap : ℕ) (f g : ℕ → ℕ) (m : ℕ) where
     unfolding syncBit
     same-sync = ap carries e
 
-    pub same-spoilt : spoiltBit gap f m t ≡ spoiltBit gap g m t
-    unfolding spoiltBit
-    same-spoilt = ap spoilt e
+    pub same-invalid : invalidBit gap f m t ≡ invalidBit gap g m t
+    unfolding invalidBit
+    same-invalid = ap invalid e
 
 pub length-data : (gap : ℕ) (lane : ℕ → ℕ) (m : ℕ) → length (dataOctets gap lane m) ≡ 256
 unfolding dataOctets

@@ -13,8 +13,8 @@ use lib.Pow.{pow-add, high, low, field, mod-pow-add, mod-mod-pow, shl-exact, shl
 use Rattle.bits.specs.Choice.{pick}
 use Rattle.bits.specs.Order.{bitAt, digit, number, octetsOf}
 use Rattle.bits.proofs.Numbers.{digit-at, number-more, number-two, number-ones, number-split, number-lt, number-low, number-high, number-ext, number-and, number-xor, digit-number, number-digit}
-use Rattle.frame.specs.Headers.{value, carries, spoilt, headerOf}
-use Rattle.frame.specs.Lane.{blockWidth, laneOctets, headerPlace, dataPlace, headerAt, syncBit, spoiltBit, dataBit, dataOctets, blockBit, multiblockBit, multiblock}
+use Rattle.frame.specs.Headers.{value, carries, invalid, headerOf}
+use Rattle.frame.specs.Lane.{blockWidth, laneOctets, headerPlace, dataPlace, headerAt, syncBit, invalidBit, dataBit, dataOctets, blockBit, multiblockBit, multiblock}
 use Rattle.frame.proofs.Lane.{header-lt, multiblockBit-lt, multiblock-at, block-data}
 
 -- a shift left drops what leaves the word, and so do two
@@ -135,12 +135,12 @@ module _ (lane : ℕ → ℕ) (bits : (k : ℕ) → lane k < 2) where
         (λ j q. header-cases (λ (v : ℕ). carries v ≡ bitAnd (v % 2) (bitXor (v / 2) (v % 2))) refl refl refl refl (0 + j))
         ∙ number-and (secondBit lane) valid second-lt valid-lt 0 32)
 
-    pub spoilt-read : bitXor (bitXor first second) 0xffffffff ≡ number (spoiltBit 0 lane 0) 0 32
-    unfolding valid spoiltBit spoilt
-    spoilt-read =
+    pub invalid-read : bitXor (bitXor first second) 0xffffffff ≡ number (invalidBit 0 lane 0) 0 32
+    unfolding valid invalidBit invalid
+    invalid-read =
         ap (λ (x : ℕ). bitXor x 0xffffffff) all-valid
-        ∙ sym (number-ext (spoiltBit 0 lane 0) (λ t. bitXor (valid t) 1) 0 0 32
-        (λ j q. header-cases (λ (v : ℕ). spoilt v ≡ bitXor (bitXor (v / 2) (v % 2)) 1) refl refl refl refl (0 + j))
+        ∙ sym (number-ext (invalidBit 0 lane 0) (λ t. bitXor (valid t) 1) 0 0 32
+        (λ j q. header-cases (λ (v : ℕ). invalid v ≡ bitXor (bitXor (v / 2) (v % 2)) 1) refl refl refl refl (0 + j))
         ∙ number-xor valid (λ t. 1) valid-lt (λ t. lit≤ tt) 0 32
         ∙ ap (bitXor (number valid 0 32)) (number-ones 0 32))
 

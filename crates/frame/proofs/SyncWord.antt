@@ -15,7 +15,7 @@ use Rattle.bits.specs.Order.{number, digit}
 use Rattle.bits.proofs.Numbers.{digit-at, number-none, number-lt, number-ext, number-whole, digit-number, low-digit}
 use Rattle.bits.proofs.Tests.{left, right, every, every-at}
 use Rattle.frame.specs.Modes.{Field, parity, command, mark, fixed, Row, crc12Row, fecRow, row}
-use Rattle.frame.specs.SyncWord.{held, syncWord, key, position, readParity, readCommand, markedCommand}
+use Rattle.frame.specs.SyncWord.{held, syncWord, key, position, readParity, readCommand, flaggedCommand}
 
 -- ---- the test
 
@@ -218,10 +218,10 @@ module _ (R : Row) (a b : ℕ → ℕ) where
       let w = R .commandWidth in
       number-ext (λ j. a (place R (command (w - 1 - j)))) (λ j. b (place R (command (w - 1 - j)))) 0 0 w (λ j h. e (w - 1 - (0 + j)) (omega arith))
 
-pub only-marked : (R : Row) (a b bad worse : ℕ → ℕ) → ((k : ℕ) → k < R .commandWidth → a (place R (command k)) ≡ b (place R (command k)))
-    → ((k : ℕ) → k < R .commandWidth → bad (place R (command k)) ≡ worse (place R (command k))) → markedCommand R a bad ≡ markedCommand R b worse
-unfolding markedCommand
-only-marked R a b bad worse e f = ap₂ (λ (x y : ℕ). x + pick (leb 1 y) (2 ^ R .commandWidth) 0) (only-command R a b e) (only-command R bad worse f)
+pub only-flagged : (R : Row) (a b invalid other : ℕ → ℕ) → ((k : ℕ) → k < R .commandWidth → a (place R (command k)) ≡ b (place R (command k)))
+    → ((k : ℕ) → k < R .commandWidth → invalid (place R (command k)) ≡ other (place R (command k))) → flaggedCommand R a invalid ≡ flaggedCommand R b other
+unfolding flaggedCommand
+only-flagged R a b invalid other e f = ap₂ (λ (x y : ℕ). x + pick (leb 1 y) (2 ^ R .commandWidth) 0) (only-command R a b e) (only-command R invalid other f)
 
 -- 32 sync bits are read alike as a stream and as the number they write
 module _ (R : Row) (s : Stands R) where
@@ -235,11 +235,11 @@ module _ (R : Row) (s : Stands R) where
     number-command : readCommand R (digit 32 (number bits 0 32)) ≡ readCommand R bits
     number-command = only-command R (digit 32 (number bits 0 32)) bits (λ k h. bit-there (command k) (s .commands k h))
 
-  pub number-marked : (bits bad : ℕ → ℕ) → ((t : ℕ) → bits t < 2) → ((t : ℕ) → bad t < 2)
-      → markedCommand R (digit 32 (number bits 0 32)) (digit 32 (number bad 0 32)) ≡ markedCommand R bits bad
-  unfolding markedCommand
-  number-marked bits bad d e =
-      ap₂ (λ (x y : ℕ). x + pick (leb 1 y) (2 ^ R .commandWidth) 0) (number-command bits d) (number-command bad e)
+  pub number-flagged : (bits invalid : ℕ → ℕ) → ((t : ℕ) → bits t < 2) → ((t : ℕ) → invalid t < 2)
+      → flaggedCommand R (digit 32 (number bits 0 32)) (digit 32 (number invalid 0 32)) ≡ flaggedCommand R bits invalid
+  unfolding flaggedCommand
+  number-flagged bits invalid d e =
+      ap₂ (λ (x y : ℕ). x + pick (leb 1 y) (2 ^ R .commandWidth) 0) (number-command bits d) (number-command invalid e)
 
 module _ (R : Row) (bits : ℕ → ℕ) (d : (t : ℕ) → bits t < 2) where
   pub readParity-lt : readParity R bits < 2 ^ R .code .width
@@ -250,26 +250,26 @@ module _ (R : Row) (bits : ℕ → ℕ) (d : (t : ℕ) → bits t < 2) where
   unfolding readCommand
   readCommand-lt = number-lt (λ j. bits (place R (command (R .commandWidth - 1 - j)))) (λ j. d (place R (command (R .commandWidth - 1 - j)))) 0 (R .commandWidth)
 
-  pub markedCommand-lt : (bad : ℕ → ℕ) → markedCommand R bits bad < 2 ^ (R .commandWidth + 1)
-  unfolding markedCommand
-  markedCommand-lt bad =
-      subst (λ (x : ℕ). readCommand R bits + pick (leb 1 (readCommand R bad)) (2 ^ R .commandWidth) 0 < x)
-      (sym (ap (λ (x : ℕ). 2 ^ x) (add-one (R .commandWidth)) ∙ pow-suc 2 (R .commandWidth))) (by (leb 1 (readCommand R bad)))
+  pub flaggedCommand-lt : (invalid : ℕ → ℕ) → flaggedCommand R bits invalid < 2 ^ (R .commandWidth + 1)
+  unfolding flaggedCommand
+  flaggedCommand-lt invalid =
+      subst (λ (x : ℕ). readCommand R bits + pick (leb 1 (readCommand R invalid)) (2 ^ R .commandWidth) 0 < x)
+      (sym (ap (λ (x : ℕ). 2 ^ x) (add-one (R .commandWidth)) ∙ pow-suc 2 (R .commandWidth))) (by (leb 1 (readCommand R invalid)))
     where
       by : (b : Bool) → readCommand R bits + pick b (2 ^ R .commandWidth) 0 < 2 ^ R .commandWidth * 2
       by true = omega (arith, readCommand-lt)
       by false = omega (arith, readCommand-lt)
 
--- the command is marked exactly where a header of its own was invalid
-module _ (R : Row) (bits bad : ℕ → ℕ) where
-  pub marked : 1 ≤ readCommand R bad → readCommand R bits + 2 ^ R .commandWidth ≡ markedCommand R bits bad
-  unfolding markedCommand
-  marked h = ap (λ (b : Bool). readCommand R bits + pick b (2 ^ R .commandWidth) 0) (sym (le-leb 1 (readCommand R bad) h))
+-- the command is flagged exactly where a header of its own was invalid
+module _ (R : Row) (bits invalid : ℕ → ℕ) where
+  pub flagged : 1 ≤ readCommand R invalid → readCommand R bits + 2 ^ R .commandWidth ≡ flaggedCommand R bits invalid
+  unfolding flaggedCommand
+  flagged h = ap (λ (b : Bool). readCommand R bits + pick b (2 ^ R .commandWidth) 0) (sym (le-leb 1 (readCommand R invalid) h))
 
-  pub unmarked : readCommand R bad < 1 → readCommand R bits ≡ markedCommand R bits bad
-  unfolding markedCommand
-  unmarked h =
-      sym (ap (λ (b : Bool). readCommand R bits + pick b (2 ^ R .commandWidth) 0) (lt-leb 1 (readCommand R bad) h) ∙ add-zero (readCommand R bits))
+  pub unflagged : readCommand R invalid < 1 → readCommand R bits ≡ flaggedCommand R bits invalid
+  unfolding flaggedCommand
+  unflagged h =
+      sym (ap (λ (b : Bool). readCommand R bits + pick b (2 ^ R .commandWidth) 0) (lt-leb 1 (readCommand R invalid) h) ∙ add-zero (readCommand R bits))
 
 -- a mode without commands reads 0
 pub no-command : (R : Row) → R .commandWidth ≡ 0 → (bits : ℕ → ℕ) → readCommand R bits ≡ 0
@@ -278,10 +278,10 @@ no-command R none bits =
     let f : ℕ → ℕ = λ j. bits (place R (command (R .commandWidth - 1 - j))) in
     ap (number f 0) none ∙ sym (number-none f 0)
 
-pub no-marked-command : (R : Row) → R .commandWidth ≡ 0 → (bits bad : ℕ → ℕ) → markedCommand R bits bad ≡ 0
-unfolding markedCommand
-no-marked-command R none bits bad =
-    ap₂ (λ (x y : ℕ). x + pick (leb 1 y) (2 ^ R .commandWidth) 0) (no-command R none bits) (no-command R none bad)
+pub no-flagged-command : (R : Row) → R .commandWidth ≡ 0 → (bits invalid : ℕ → ℕ) → flaggedCommand R bits invalid ≡ 0
+unfolding flaggedCommand
+no-flagged-command R none bits invalid =
+    ap₂ (λ (x y : ℕ). x + pick (leb 1 y) (2 ^ R .commandWidth) 0) (no-command R none bits) (no-command R none invalid)
 
 -- ---- the order of the parity's bits
 

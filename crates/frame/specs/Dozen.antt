@@ -4,7 +4,7 @@ use mathlib.Core.List.{List, [], _∷_}
 use Prim.Native.Nat.{ℕ}
 use lib.Dec.{eqb}
 use Rattle.bits.specs.Choice.{bitOf}
-use Rattle.bits.specs.Order.{run, number}
+use Rattle.bits.specs.Order.{listFrom, number}
 use Rattle.scrambler.specs.Scrambling.{sent}
 use Rattle.polynomial.specs.Remainder.{remainder}
 use Rattle.parity.specs.Codeword.{Code, crc12, fec}
@@ -17,7 +17,7 @@ alone p k = bitOf (eqb k p)
 
 -- the parity of the 2,048 data bits of which position p alone is set
 abbrev pub parityAlone : Code → ℕ → ℕ
-parityAlone C p = remainder (C .width) (C .lower) (run (alone p) 0 2048)
+parityAlone C p = remainder (C .width) (C .lower) (listFrom (alone p) 0 2048)
 
 pub data Case : Type 0 where
   gives : ℕ → ℕ → Case

@@ -13,8 +13,8 @@ unfoldable pub carries : ℕ → ℕ
 carries v = pick (eqb v 1) 1 0
 
 -- 1 where a header is invalid
-unfoldable pub spoilt : ℕ → ℕ
-spoilt v = pick (eqb v 1) 0 (pick (eqb v 2) 0 1)
+unfoldable pub invalid : ℕ → ℕ
+invalid v = pick (eqb v 1) 0 (pick (eqb v 2) 0 1)
 
 -- the header that carries a bit
 unfoldable pub headerOf : ℕ → ℕ

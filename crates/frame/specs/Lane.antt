@@ -7,7 +7,7 @@ use Prim.Native.Nat.{ℕ, zero, suc, _+_, _-_, _*_, _/_, _%_}
 use lib.Dec.{ltb}
 use Rattle.bits.specs.Choice.{pick}
 use Rattle.bits.specs.Order.{bitAt, number, digit, octetsOf}
-use Rattle.frame.specs.Headers.{value, carries, spoilt, headerOf}
+use Rattle.frame.specs.Headers.{value, carries, invalid, headerOf}
 
 -- ---- where things stand
 
@@ -39,8 +39,8 @@ headerAt gap lane m t = value (lane (headerPlace gap m t)) (lane (headerPlace ga
 unfoldable pub syncBit : ℕ → (ℕ → ℕ) → ℕ → ℕ → ℕ
 syncBit gap lane m t = carries (headerAt gap lane m t)
 
-unfoldable pub spoiltBit : ℕ → (ℕ → ℕ) → ℕ → ℕ → ℕ
-spoiltBit gap lane m t = spoilt (headerAt gap lane m t)
+unfoldable pub invalidBit : ℕ → (ℕ → ℕ) → ℕ → ℕ → ℕ
+invalidBit gap lane m t = invalid (headerAt gap lane m t)
 
 -- the 256 data octets of multiblock m, as they stand on the lane
 unfoldable pub dataOctets : ℕ → (ℕ → ℕ) → ℕ → List ℕ

@@ -43,6 +43,6 @@ readParity R bits = number (λ j. bits (position (R .layout) (parity (R .code .w
 unfoldable pub readCommand : Row → (ℕ → ℕ) → ℕ
 readCommand R bits = number (λ j. bits (position (R .layout) (command (R .commandWidth - 1 - j)))) 0 (R .commandWidth)
 
--- the same with a mark above it, where any of its headers was invalid
-unfoldable pub markedCommand : Row → (ℕ → ℕ) → (ℕ → ℕ) → ℕ
-markedCommand R bits bad = readCommand R bits + pick (leb 1 (readCommand R bad)) (2 ^ R .commandWidth) 0
+-- the same with a flag above it, where any of its headers was invalid
+unfoldable pub flaggedCommand : Row → (ℕ → ℕ) → (ℕ → ℕ) → ℕ
+flaggedCommand R bits invalid = readCommand R bits + pick (leb 1 (readCommand R invalid)) (2 ^ R .commandWidth) 0

@@ -4,7 +4,7 @@ ghost use mathlib.Core.Path.{_≡_};
 ghost use Rattle.bits.specs.Choice.{bitOf};
 ghost use Rattle.bits.specs.Order.{digit};
 ghost use Rattle.frame.specs.Modes.{row, crc12Row};
-ghost use Rattle.frame.specs.SyncWord.{syncWord, readParity, readCommand, markedCommand};
+ghost use Rattle.frame.specs.SyncWord.{syncWord, readParity, readCommand, flaggedCommand};
 
 // The sync word that carries a parity, a command and an end mark.
 pub fn word(mode: u8, parity: u32, command: u32, mark: bool) -> u32
@@ -39,15 +39,15 @@ fn plain_command(bits: u32) -> u32
     ((bits >> 9) & 0x70) ^ ((bits >> 8) & 8) ^ ((bits >> 5) & 7)
 }
 
-// The command that 32 sync bits carry, marked where one of its headers was invalid.
-pub fn command(mode: u8, bits: u32, bad: u32) -> u32
-    ensures { λ r. ⌜ r ≡ markedCommand (row mode) (digit 32 bits) (digit 32 bad) ⌝ }
+// The command that 32 sync bits carry, flagged where one of its headers was invalid.
+pub fn command(mode: u8, bits: u32, invalid: u32) -> u32
+    ensures { λ r. ⌜ r ≡ flaggedCommand (row mode) (digit 32 bits) (digit 32 invalid) ⌝ }
 {
     if mode == 1 {
         return 0;
     }
     let own = plain_command(bits);
-    if plain_command(bad) >= 1 {
+    if plain_command(invalid) >= 1 {
         return own + 128;
     }
     own

@@ -4,7 +4,7 @@ use mathlib.Core.Bool.{Bool, true, false}
 use Prim.Native.Nat.{ℕ, _+_, _%_}
 use lib.Dec.{eqb}
 use Rattle.bits.specs.Choice.{pick}
-use Rattle.frame.specs.Headers.{spoilt}
+use Rattle.frame.specs.Headers.{invalid}
 use Rattle.header_lock.specs.declared.HeaderLock.{HeaderLock}
 
 -- hunting at an offset, with a run of valid headers
@@ -17,7 +17,7 @@ headerLocked offset run bad = record { locked = true; offset = offset; run = run
 
 -- 01 and 10
 abbrev pub valid : ℕ → Bool
-valid header = eqb (spoilt header) 0
+valid header = eqb (invalid header) 0
 
 -- by: is it locked, is the header valid
 abbrev pub headerRow : Bool → Bool → ℕ → HeaderLock → HeaderLock

@@ -1,4 +1,4 @@
--- What a verdict is by the difference of the two parities, what it mends, and what is marked of it: document 01, "What the receiver releases".
+-- What a verdict is by the difference of the two parities, what it mends, and what is releasedStatus of it: document 01, "What the receiver releases".
 -- Assumes nothing.
 use mathlib.Core.Path.{_≡_, refl, sym, ap, _∙_}
 use mathlib.Core.Logic.{_⊎_, inl, inr, _≢_}
@@ -22,7 +22,7 @@ use Rattle.parity.proofs.Sets.{flips-bit}
 use Rattle.parity.proofs.Answer.{answer-is}
 use Rattle.frame.specs.Modes.{Row}
 use Rattle.judge.specs.declared.Verdict.{Verdict}
-use Rattle.judge.specs.Judge.{agrees, failed, byBurst, verdictOf, judged, mended, marked, trustedAfter}
+use Rattle.judge.specs.Judge.{agrees, failed, byBurst, verdictOf, judged, mended, releasedStatus, trustedAfter}
 use Rattle.judge.specs.Sound.{sound}
 use Rattle.judge.proofs.Mending.{flips-none}
 
@@ -55,13 +55,13 @@ mended-none v octets k z h =
     ∙ ap (bitXor (bitAt octets k)) (ap (λ (x : ℕ). flips (v .place) x k) z ∙ flips-none (v .place) k)
     ∙ xor-zero-r (bitAt octets k)
 
-pub marked-trusted : (v : Verdict) → marked v true ≡ v .status
-unfolding marked
-marked-trusted v = add-zero (v .status)
+pub status-trusted : (v : Verdict) → releasedStatus v true ≡ v .status
+unfolding releasedStatus
+status-trusted v = add-zero (v .status)
 
-pub marked-untrusted : (v : Verdict) → marked v false ≡ v .status + 4
-unfolding marked
-marked-untrusted v = refl
+pub status-untrusted : (v : Verdict) → releasedStatus v false ≡ v .status + 4
+unfolding releasedStatus
+status-untrusted v = refl
 
 pub trusted-after : (v : Verdict) → v .status ≢ 2 → trustedAfter v ≡ true
 unfolding trustedAfter
@@ -78,8 +78,8 @@ pub record Believed (v : Verdict) (trusted : Bool) (j : ℕ) : Type 0 where
   pub not-failed : v .status ≢ 2
   pub known : (trusted ≡ true) ⊎ (8 ≤ j)
 
-pub believed : (v : Verdict) (trusted : Bool) (j : ℕ) → v .status ≤ 2 → sound (marked v trusted) j ≡ true → Believed v trusted j
-unfolding sound marked
+pub believed : (v : Verdict) (trusted : Bool) (j : ℕ) → v .status ≤ 2 → sound (releasedStatus v trusted) j ≡ true → Believed v trusted j
+unfolding sound releasedStatus
 believed v trusted j h e = by trusted (v .status) h e
   where
     by : (t : Bool) (n : ℕ) → n ≤ 2 → sound (n + pick t 0 4) j ≡ true → Believed (record { status = n; place = v .place; pattern = v .pattern }) t j

@@ -39,8 +39,8 @@ unfoldable pub mended : Verdict → List ℕ → List ℕ
 mended v octets = octetsOf (λ k. bitXor (bitAt octets k) (flips (v .place) (v .pattern) k)) 256
 
 -- 4 is added when the history before isn't trusted
-unfoldable pub marked : Verdict → Bool → ℕ
-marked v trusted = v .status + pick trusted 0 4
+unfoldable pub releasedStatus : Verdict → Bool → ℕ
+releasedStatus v trusted = v .status + pick trusted 0 4
 
 -- the next history is trusted unless this multiblock failed
 unfoldable pub trustedAfter : Verdict → Bool

@@ -8,7 +8,7 @@ ghost use Rattle.bits.specs.Order.{bitAt, number};
 ghost use Rattle.bits.specs.Parts.{written};
 ghost use Rattle.scrambler.specs.Scrambling.{descrambled};
 ghost use Rattle.frame.specs.Modes.{row};
-ghost use Rattle.judge.specs.Judge.{byBurst, verdictOf, judged, mended, marked, trustedAfter};
+ghost use Rattle.judge.specs.Judge.{byBurst, verdictOf, judged, mended, releasedStatus, trustedAfter};
 use parity::Burst;
 use parity::Crc12;
 use parity::Fec;
@@ -100,9 +100,9 @@ fn mend(octets: [u8; 256], verdict: Verdict) -> [u8; 256]
 }
 
 // The status as it is released.
-fn mark(verdict: Verdict, trusted: bool) -> u8
+fn released_status(verdict: Verdict, trusted: bool) -> u8
     requires { ⌜ verdict .status ≤ 2 ⌝ }
-    ensures { λ r. ⌜ r ≡ marked verdict trusted ⌝ }
+    ensures { λ r. ⌜ r ≡ releasedStatus verdict trusted ⌝ }
 {
     if trusted {
         return verdict.status;
@@ -131,7 +131,7 @@ pub fn release(
 ) -> Released
     ensures { λ r. ⌜ r .refusal ≡ pick (ltb (length (now (out .entry))) 256) 7 0 ⌝ }
     ensures { λ r. ⌜ r .verdict ≡ judged (row mode) octets parity ⌝ }
-    ensures { λ r. ⌜ r .status ≡ marked (r .verdict) trusted ⌝ }
+    ensures { λ r. ⌜ r .status ≡ releasedStatus (r .verdict) trusted ⌝ }
     ensures { λ r. ⌜ r .history ≡ number (bitAt (mended (r .verdict) octets)) 1990 58 ⌝ }
     ensures { λ r. ⌜ r .trusted ≡ trustedAfter (r .verdict) ⌝ }
     ensures { λ r. ⌜ now (out .exit) ≡ written (r .refusal) (descrambled (mended (r .verdict) octets) history 256) (now (out .entry)) ⌝ }
@@ -143,7 +143,7 @@ pub fn release(
     Released {
         refusal,
         verdict,
-        status: mark(verdict, trusted),
+        status: released_status(verdict, trusted),
         history: after,
         trusted: trusted_after(verdict),
     }

@@ -9,7 +9,7 @@ use native.Mathlib.Omega.{arith}
 use borrow.Author.Tests.{eq-eqb}
 use lib.Dec.{eqb}
 use Rattle.frame.specs.Headers.{carries}
-use Rattle.frame.proofs.Headers.{sound-le}
+use Rattle.frame.proofs.Headers.{valid-le}
 use Rattle.header_lock.specs.Table.{headerHunting, headerLocked, valid, headerStep}
 use Rattle.header_lock.specs.declared.HeaderLock.{HeaderLock}
 use Rattle.header_lock.proofs.Rows as rows
@@ -63,10 +63,10 @@ module _ (mode E p : ℕ) (headers : ℕ → ℕ) (known : mode ≤ 1) (some : 1
   r n = ran mode E headers n
 
   values : (n : ℕ) → headers n ≤ 3
-  values n = sound-le (headers n) (lane .sound n)
+  values n = valid-le (headers n) (lane .valid n)
 
   good : (n : ℕ) → valid (headers n) ≡ true
-  good n = eq-eqb _ _ (lane .sound n)
+  good n = eq-eqb _ _ (lane .valid n)
 
   next : (n : ℕ) → r (suc n) ≡ lockStep (widthOf mode) (32 * E) (r n) (headers n)
   unfolding r

@@ -7,8 +7,8 @@ use Prim.Native.Nat.{ℕ, zero, suc, _+_, _*_, _≤_, _<_}
 use native.Mathlib.Numerals.{add-one}
 use native.Mathlib.Nat.{zero-add}
 use native.Mathlib.Omega.{arith}
-use Rattle.bits.specs.Order.{run}
-use Rattle.bits.proofs.Runs.{run-none, run-one, run-append, run-ext}
+use Rattle.bits.specs.Order.{listFrom}
+use Rattle.bits.proofs.Lists.{list-none, list-one, list-append, list-ext}
 use Rattle.lock.specs.Table.{fresh, lockStep}
 use Rattle.lock.specs.Accepted.{accepted, widthOf, stepped}
 use Rattle.lock.specs.Run.{after, ran}
@@ -25,23 +25,23 @@ after-append mode E lock (header ∷ a) b = after-append mode E (stepped mode E 
 -- a run goes by the headers that it takes
 pub ran-same : (mode E : ℕ) (f g : ℕ → ℕ) (n : ℕ) → ((x : ℕ) → x < n → f x ≡ g x) → ran mode E f n ≡ ran mode E g n
 unfolding ran
-ran-same mode E f g n e = ap (after mode E fresh) (run-ext f g 0 0 n (λ j h. e (0 + j) (omega arith)))
+ran-same mode E f g n e = ap (after mode E fresh) (list-ext f g 0 0 n (λ j h. e (0 + j) (omega arith)))
 
 module _ (mode E : ℕ) (headers : ℕ → ℕ) where
   -- a run goes on from the state where it stands
-  pub ran-on : (n m : ℕ) → ran mode E headers (n + m) ≡ after mode E (ran mode E headers n) (run headers n m)
+  pub ran-on : (n m : ℕ) → ran mode E headers (n + m) ≡ after mode E (ran mode E headers n) (listFrom headers n m)
   unfolding ran
   ran-on n m =
-      ap (after mode E fresh) (run-append headers 0 n m) ∙ after-append mode E fresh (run headers 0 n) (run headers (0 + n) m)
-      ∙ ap (λ (k : ℕ). after mode E (ran mode E headers n) (run headers k m)) (zero-add n)
+      ap (after mode E fresh) (list-append headers 0 n m) ∙ after-append mode E fresh (listFrom headers 0 n) (listFrom headers (0 + n) m)
+      ∙ ap (λ (k : ℕ). after mode E (ran mode E headers n) (listFrom headers k m)) (zero-add n)
 
   pub ran-none : ran mode E headers 0 ≡ fresh
   unfolding ran after
-  ran-none = ap (after mode E fresh) (run-none headers 0)
+  ran-none = ap (after mode E fresh) (list-none headers 0)
 
   pub ran-suc : (n : ℕ) → ran mode E headers (suc n) ≡ stepped mode E (ran mode E headers n) (headers n) .lock
   unfolding after
-  ran-suc n = ap (ran mode E headers) (sym (add-one n)) ∙ ran-on n 1 ∙ ap (after mode E (ran mode E headers n)) (run-one headers n)
+  ran-suc n = ap (ran mode E headers) (sym (add-one n)) ∙ ran-on n 1 ∙ ap (after mode E (ran mode E headers n)) (list-one headers n)
 
 module _ (mode E : ℕ) (headers : ℕ → ℕ) (known : mode ≤ 1) (some : 1 ≤ E) (few : E ≤ 256) (values : (n : ℕ) → headers n ≤ 3) where
   -- a run from fresh stays with accepted states

@@ -1,7 +1,7 @@
 -- Runs of the two locks: the step repeated over header values; clause 7.6; document 01, "Lock tables". Assumes nothing.
 use mathlib.Core.List.{List, [], _∷_}
 use Prim.Native.Nat.{ℕ}
-use Rattle.bits.specs.Order.{run}
+use Rattle.bits.specs.Order.{listFrom}
 use Rattle.lock.specs.Table.{fresh}
 use Rattle.lock.specs.Accepted.{stepped}
 use Rattle.lock.specs.declared.Lock.{Lock}
@@ -13,4 +13,4 @@ after mode E lock (header ∷ headers) = after mode E (stepped mode E lock heade
 
 -- the state after the first n of a stream of header values, from fresh
 unfoldable pub ran : ℕ → ℕ → (ℕ → ℕ) → ℕ → Lock
-ran mode E headers n = after mode E fresh (run headers 0 n)
+ran mode E headers n = after mode E fresh (listFrom headers 0 n)

@@ -3,7 +3,7 @@ use mathlib.Core.Path.{_≡_}
 use mathlib.Core.Bool.{Bool, true, _||_}
 use Prim.Native.Nat.{ℕ, _+_, _-_, _*_, _%_, _≤_}
 use lib.Dec.{eqb}
-use Rattle.frame.specs.Headers.{carries, spoilt}
+use Rattle.frame.specs.Headers.{carries, invalid}
 use Rattle.extended_lock.specs.declared.Phase.the-variants.{Locked}
 use Rattle.lock.specs.declared.Lock.{Lock}
 
@@ -21,7 +21,7 @@ pub record Crc12Sync (E p : ℕ) (sync : ℕ → ℕ) : Type 0 where
 
 -- header values that are all valid and carry such sync bits
 pub record Crc12Headers (E p : ℕ) (headers : ℕ → ℕ) : Type 0 where
-  pub sound : (n : ℕ) → spoilt (headers n) ≡ 0
+  pub valid : (n : ℕ) → invalid (headers n) ≡ 0
   pub sync : Crc12Sync E p (λ n. carries (headers n))
 
 -- both locks are held

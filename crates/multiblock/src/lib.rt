@@ -7,7 +7,7 @@ ghost use Rattle.bits.specs.Choice.{pick};
 ghost use Rattle.bits.specs.Order.{bitAt, digit, number, octetsIn};
 ghost use Rattle.bits.specs.Parts.{refusalOf, written};
 ghost use Rattle.frame.specs.Headers.{headerOf};
-ghost use Rattle.frame.specs.Lane.{multiblock, dataOctets, syncBit, spoiltBit};
+ghost use Rattle.frame.specs.Lane.{multiblock, dataOctets, syncBit, invalidBit};
 
 // The header that carries a bit of the sync word.
 fn header_of(sync: u32, block: usize) -> u64
@@ -72,28 +72,28 @@ fn data_in(word: u64, next: u64, block: usize) -> u64
 pub struct Headers {
     pub refusal: u8,
     pub bits: u32,
-    pub bad: u32,
+    pub invalid: u32,
 }
 
 // The multiblock at the start of `lane`: its data octets over the start of `octets`, and its headers.
 pub fn read(lane: &[u8], octets: &mut [u8]) -> Headers
     ensures { λ r. ⌜ r .refusal ≡ refusalOf 264 (now (lane .entry)) 256 (now (octets .entry)) ⌝ }
     ensures { λ r. ⌜ r .bits ≡ pick (eqb (r .refusal) 0) (number (syncBit 0 (bitAt (now (lane .entry))) 0) 0 32) 0 ⌝ }
-    ensures { λ r. ⌜ r .bad ≡ pick (eqb (r .refusal) 0) (number (spoiltBit 0 (bitAt (now (lane .entry))) 0) 0 32) 0 ⌝ }
+    ensures { λ r. ⌜ r .invalid ≡ pick (eqb (r .refusal) 0) (number (invalidBit 0 (bitAt (now (lane .entry))) 0) 0 32) 0 ⌝ }
     ensures { λ r. ⌜ now (octets .exit) ≡ written (r .refusal) (dataOctets 0 (bitAt (now (lane .entry))) 0) (now (octets .entry)) ⌝ }
 {
     if lane.len() < 264 {
         return Headers {
             refusal: 4,
             bits: 0,
-            bad: 0,
+            invalid: 0,
         };
     }
     if octets.len() < 256 {
         return Headers {
             refusal: 7,
             bits: 0,
-            bad: 0,
+            invalid: 0,
         };
     }
     let mut first: u32 = 0;
@@ -111,6 +111,6 @@ pub fn read(lane: &[u8], octets: &mut [u8]) -> Headers
     Headers {
         refusal: 0,
         bits: second & valid,
-        bad: valid ^ 0xffff_ffff,
+        invalid: valid ^ 0xffff_ffff,
     }
 }

@@ -9,7 +9,7 @@ use lib.Dec.{lit<}
 use lib.Pow.{pow-pos, pow-lt}
 use lib.Bits.{bitXor, xor-lt, xor-zero-r}
 use borrow.Author.Tests.{lt-ltb, le-ltb}
-use Rattle.bits.specs.Order.{run, number, bitsOf}
+use Rattle.bits.specs.Order.{listFrom, number, bitsOf}
 use Rattle.bits.proofs.Xor.{odd-lt, xor-assoc, xor-swap}
 use Rattle.bits.proofs.Numbers.{number-none, number-first, number-lt, number-ext, number-whole}
 use Rattle.polynomial.specs.Polynomial.{scale, timesPower, power}
@@ -73,7 +73,7 @@ module _ (C : Code) where
         next-power w g some n r b ∙ ap (λ (k : ℕ). bitXor (timesPower w g (suc n) r) (scale b (power w g k))) place
 
     -- data: n positions with the parity's after them
-    from-weighed : (f : ℕ → ℕ) (p n r : ℕ) → p + n + w ≡ C .positions → remainderFrom w g r (run f p n) ≡ bitXor (timesPower w g n r) (weighed C f p n)
+    from-weighed : (f : ℕ → ℕ) (p n r : ℕ) → p + n + w ≡ C .positions → remainderFrom w g r (listFrom f p n) ≡ bitXor (timesPower w g n r) (weighed C f p n)
     unfolding weighed
     from-weighed f p zero r e = from-none w g r f p ∙ sym (timesPower-none w g r) ∙ sym (xor-zero-r (timesPower w g 0 r))
     from-weighed f p (suc n) r e =
@@ -82,9 +82,9 @@ module _ (C : Code) where
         ∙ ap (λ (x : ℕ). bitXor x (weighed C f (suc p) n)) (bit-weighed p n r (f p) e)
         ∙ xor-assoc (timesPower w g (suc n) r) (scale (f p) (weight C p)) (weighed C f (suc p) n)
 
-    pub remainder-weighed : (f : ℕ → ℕ) (n : ℕ) → n + w ≡ C .positions → remainder w g (run f 0 n) ≡ weighed C f 0 n
+    pub remainder-weighed : (f : ℕ → ℕ) (n : ℕ) → n + w ≡ C .positions → remainder w g (listFrom f 0 n) ≡ weighed C f 0 n
     remainder-weighed f n e =
-        sym (from-zero w g (run f 0 n))
+        sym (from-zero w g (listFrom f 0 n))
         ∙ from-weighed f 0 n 0 (ap (λ (x : ℕ). x + w) (zero-add n) ∙ e) ∙ ap (λ (x : ℕ). bitXor x (weighed C f 0 n)) (timesPower-zero w g n)
 
     -- parity: at most w positions, the last ones, weigh as the digits of a number
@@ -115,7 +115,7 @@ module _ (C : Code) where
           ∙ mod-eq-of-lt h
 
       -- the remainder with the received parity is the codeword's
-      pub received : parity < 2 ^ w → bitXor (remainder w g (run f 0 (C .positions - w))) parity ≡ remainderOf C (codeword C f parity)
+      pub received : parity < 2 ^ w → bitXor (remainder w g (listFrom f 0 (C .positions - w))) parity ≡ remainderOf C (codeword C f parity)
       unfolding remainderOf
       received h =
           let n = C .positions - w in

@@ -6,8 +6,8 @@ use Prim.Native.Nat.{ℕ, _+_, _-_, _*_, _/_, _%_, _^_, _≤_, _<_}
 use native.Mathlib.Omega.{arith}
 use lib.Bits.{bitXor, xor-self}
 use lib.ListN.{length}
-use Rattle.bits.specs.Order.{bitAt, run}
-use Rattle.bits.proofs.Runs.{from-start}
+use Rattle.bits.specs.Order.{bitAt, listFrom}
+use Rattle.bits.proofs.Lists.{from-start}
 use Rattle.polynomial.specs.Remainder.{remainder}
 use Rattle.parity.specs.Codeword.{Code, parityOf, codeword, remainderOf}
 use Rattle.parity.proofs.Codeword.{data-part, parity-part, received, weighed-xor, weighed-ext}
@@ -47,5 +47,5 @@ pub received-octets : (C : Code) → Proper C → (octets : List ℕ) (parity : 
 unfolding parityOf
 received-octets C proper octets parity long h =
     ap (λ (l : List ℕ). bitXor (remainder (C .width) (C .lower) l) parity)
-    (sym (from-start octets) ∙ ap (run (bitAt octets) 0) {x = 8 * (length octets - 0)} {y = C .positions - C .width} (omega (arith, proper .long)))
+    (sym (from-start octets) ∙ ap (listFrom (bitAt octets) 0) {x = 8 * (length octets - 0)} {y = C .positions - C .width} (omega (arith, proper .long)))
     ∙ received C (proper .some) (bitAt octets) parity (omega (arith, proper .long)) h

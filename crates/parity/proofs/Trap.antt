@@ -12,8 +12,8 @@ use lib.Arith.{lt-one, digits-div}
 use lib.Dec.{lit<, lit≤}
 use lib.Pow.{pow-pos, mod-pow-add}
 use lib.Bits.{bitXor, bitAnd, and-mask, xor-lt, xor-comm, xor-zero-r}
-use Rattle.bits.specs.Order.{run}
-use Rattle.bits.proofs.Runs.{getD-run}
+use Rattle.bits.specs.Order.{listFrom}
+use Rattle.bits.proofs.Lists.{getD-list}
 use Rattle.bits.proofs.Xor.{bit-cases, odd-lt, xor-assoc}
 use Rattle.polynomial.specs.Polynomial.{scale, timesX, timesPower}
 use Rattle.polynomial.proofs.Polynomial.{half-lt, scale-zero, scale-one, scale-mod, scale-and, scale-above, scale-lt, timesX-lt, timesPower-none, timesPower-suc, timesPower-xor, timesPower-zero, timesPower-scale, timesPower-in, timesPower-injective, power-low}
@@ -125,8 +125,8 @@ module _ (s place pattern : ℕ) (e : Explains s place pattern) where
 
 -- ---- the sum of a burst's weights, as the code takes it: bit by bit
 
-pub weight-at : (weights : List ℕ) (p : ℕ) → weights ≡ run (weight fec) 0 2074 → p < 2074 → getD weights p 0 ≡ weight fec p
-weight-at weights p e l = ap (λ (ws : List ℕ). getD ws p 0) e ∙ getD-run (weight fec) 0 2074 p l ∙ ap (weight fec) (zero-add p)
+pub weight-at : (weights : List ℕ) (p : ℕ) → weights ≡ listFrom (weight fec) 0 2074 → p < 2074 → getD weights p 0 ≡ weight fec p
+weight-at weights p e l = ap (λ (ws : List ℕ). getD ws p 0) e ∙ getD-list (weight fec) 0 2074 p l ∙ ap (weight fec) (zero-add p)
 
 -- what is left of a pattern stays inside
 pub next-inside : (p q : ℕ) → q < 2 ^ (2074 - p) → q / 2 < 2 ^ (2074 - (p + 1))

@@ -2,7 +2,7 @@
 ghost use mathlib.Core.Path.{_≡_};
 ghost use Prim.Native.Nat.{_-_, _*_, _^_, _<_, _≤_};
 ghost use lib.ListN.{length};
-ghost use Rattle.bits.specs.Order.{bitAt, run, digits};
+ghost use Rattle.bits.specs.Order.{bitAt, listFrom, digits};
 ghost use Rattle.polynomial.specs.Remainder.{next, remainderFrom};
 
 // One bit more.
@@ -33,7 +33,7 @@ fn next_octet(w: u32, g: u32, r: u32, octet: u8) -> u32
 // All octets from `from` on.
 pub(crate) fn rest(w: u32, g: u32, r: u32, octets: &[u8], from: usize) -> u32
     requires { ⌜ (w ≤ 31) × (g < 2 ^ w) × (r < 2 ^ w) × (from ≤ length (now octets)) ⌝ }
-    ensures { λ s. ⌜ s ≡ remainderFrom w g r (run (bitAt (now (octets .entry))) (8 * from) (8 * (length (now (octets .entry)) - from))) ⌝ }
+    ensures { λ s. ⌜ s ≡ remainderFrom w g r (listFrom (bitAt (now (octets .entry))) (8 * from) (8 * (length (now (octets .entry)) - from))) ⌝ }
 {
     let mut s = r;
     for i in from..octets.len() {

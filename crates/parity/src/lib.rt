@@ -1,6 +1,6 @@
 // Parity: remainders, weights and bursts. Document 01, "Parity"; clauses 7.4.2 and 7.5.2.
 ghost use mathlib.Core.Path.{_≡_};
-ghost use Rattle.bits.specs.Order.{run, octetsIn};
+ghost use Rattle.bits.specs.Order.{listFrom, octetsIn};
 ghost use Rattle.parity.specs.Codeword.{Code, crc12, fec, parityOf, weight};
 ghost use Rattle.parity.specs.Answer.{Answer};
 
@@ -71,7 +71,7 @@ impl Fec {
 
     // The weights of all positions.
     pub fn weights() -> [u32; 2074]
-        ensures { λ r. ⌜ r ≡ run (weight fec) 0 2074 ⌝ }
+        ensures { λ r. ⌜ r ≡ listFrom (weight fec) 0 2074 ⌝ }
     {
         weights::table()
     }

@@ -2,7 +2,7 @@
 // In the trap, a remainder times x^(place - 2065), a burst that begins at the place stands as a number of nine bits, highest first.
 ghost use mathlib.Core.Path.{_≡_};
 ghost use Prim.Native.Nat.{ℕ, _-_, _^_, _<_, _≤_};
-ghost use Rattle.bits.specs.Order.{run};
+ghost use Rattle.bits.specs.Order.{listFrom};
 ghost use Rattle.polynomial.specs.Polynomial.{timesX, timesPower};
 ghost use Rattle.parity.specs.Codeword.{fec, weight, remainderOf};
 ghost use Rattle.parity.specs.Bursts.{IsBurst, flips};
@@ -55,7 +55,7 @@ fn patterns_below(remainder: u32, trap: u32, place: usize) -> u32
 
 // The remainder that a burst makes, from the weights of its positions.
 fn sum_of(weights: &[u32; 2074], place: usize, pattern: u32) -> u32
-    requires { ⌜ now weights ≡ run (weight fec) 0 2074 ⌝ }
+    requires { ⌜ now weights ≡ listFrom (weight fec) 0 2074 ⌝ }
     requires { ⌜ IsBurst 9 2074 place pattern ⌝ }
     ensures { λ r. ⌜ r ≡ remainderOf fec (flips place pattern) ⌝ }
 {
@@ -74,7 +74,7 @@ fn sum_of(weights: &[u32; 2074], place: usize, pattern: u32) -> u32
 
 // By place, and at each place by pattern: left as soon as a pair agrees.
 pub(crate) fn search(weights: &[u32; 2074], remainder: u32) -> Burst
-    requires { ⌜ now weights ≡ run (weight fec) 0 2074 ⌝ }
+    requires { ⌜ now weights ≡ listFrom (weight fec) 0 2074 ⌝ }
     requires { ⌜ remainder < 2 ^ 26 ⌝ }
     ensures { λ r. ⌜ Answer remainder r ⌝ }
 {

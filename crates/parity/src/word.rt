@@ -2,7 +2,7 @@
 ghost use mathlib.Core.Path.{_≡_};
 ghost use Prim.Native.Nat.{_*_, _^_, _<_, _≤_};
 ghost use lib.ListN.{length};
-ghost use Rattle.bits.specs.Order.{bitAt, run, digits, wordBit};
+ghost use Rattle.bits.specs.Order.{bitAt, listFrom, digits, wordBit};
 ghost use Rattle.polynomial.specs.Remainder.{remainderFrom};
 ghost use Rattle.parity.specs.Codeword.{codeOf};
 
@@ -51,7 +51,7 @@ fn next_word(fec: bool, r: u32, word: u64) -> u32
 // The first octets with FEC, a whole number of words. Each code has its own loop over octets, so that the compiler takes it into its caller.
 pub(crate) fn fec_words(octets: &[u8], count: usize) -> u32
     requires { ⌜ 8 * count ≤ length (now octets) ⌝ }
-    ensures { λ s. ⌜ s ≡ remainderFrom 26 0x0220211 0 (run (bitAt (now (octets .entry))) 0 (64 * count)) ⌝ }
+    ensures { λ s. ⌜ s ≡ remainderFrom 26 0x0220211 0 (listFrom (bitAt (now (octets .entry))) 0 (64 * count)) ⌝ }
 {
     let mut s: u32 = 0;
     for i in 0..count {
@@ -63,7 +63,7 @@ pub(crate) fn fec_words(octets: &[u8], count: usize) -> u32
 // The same with CRC-12.
 pub(crate) fn crc12_words(octets: &[u8], count: usize) -> u32
     requires { ⌜ 8 * count ≤ length (now octets) ⌝ }
-    ensures { λ s. ⌜ s ≡ remainderFrom 12 0x30F 0 (run (bitAt (now (octets .entry))) 0 (64 * count)) ⌝ }
+    ensures { λ s. ⌜ s ≡ remainderFrom 12 0x30F 0 (listFrom (bitAt (now (octets .entry))) 0 (64 * count)) ⌝ }
 {
     let mut s: u32 = 0;
     for i in 0..count {
@@ -74,7 +74,7 @@ pub(crate) fn crc12_words(octets: &[u8], count: usize) -> u32
 
 // All of a list of words.
 pub(crate) fn of_words(fec: bool, words: &[u64]) -> u32
-    ensures { λ s. ⌜ s ≡ remainderFrom (codeOf fec .width) (codeOf fec .lower) 0 (run (wordBit (now (words .entry))) 0 (64 * length (now (words .entry)))) ⌝ }
+    ensures { λ s. ⌜ s ≡ remainderFrom (codeOf fec .width) (codeOf fec .lower) 0 (listFrom (wordBit (now (words .entry))) 0 (64 * length (now (words .entry)))) ⌝ }
 {
     let mut s: u32 = 0;
     for i in 0..words.len() {

@@ -10,7 +10,7 @@ use lib.Pow.{pow-pos, pow-mono, shl-exact}
 use lib.Bits.{bitXor, bitAnd, and-mask, xor-comm}
 use Rattle.bits.specs.Order.{digits}
 use Rattle.bits.proofs.Xor.{xor-assoc}
-use Rattle.bits.proofs.Runs.{bitsFrom, from-next, from-end, digits-octet}
+use Rattle.bits.proofs.Lists.{bitsFrom, from-next, from-end, digits-octet}
 use Rattle.polynomial.specs.Polynomial.{scale, timesX}
 use Rattle.polynomial.specs.Remainder.{next, remainderFrom}
 use Rattle.polynomial.proofs.Polynomial.{scale-xor, scale-and, scale-lt, top-lt}

@@ -4,8 +4,8 @@ use mathlib.Core.List.{List, [], _∷_, _++_}
 use Prim.Native.Nat.{ℕ, zero, suc, _+_, _/_, _%_, _^_, _<_}
 use lib.Pow.{pow-pos}
 use lib.Bits.{bitXor, xor-lt, xor-shr, xor-mod, xor-comm}
-use Rattle.bits.specs.Order.{run, digits}
-use Rattle.bits.proofs.Runs.{run-none, run-first, digits-none, digits-first}
+use Rattle.bits.specs.Order.{listFrom, digits}
+use Rattle.bits.proofs.Lists.{list-none, list-first, digits-none, digits-first}
 use Rattle.bits.proofs.Xor.{xor-swap}
 use Rattle.polynomial.specs.Polynomial.{scale, timesX, timesPower, power}
 use Rattle.polynomial.specs.Remainder.{next, remainderFrom, remainder}
@@ -17,13 +17,13 @@ module _ (w g : ℕ) where
   from-zero bits = refl
 
   -- along a run: no bit, and one
-  pub from-none : (r : ℕ) (f : ℕ → ℕ) (k : ℕ) → remainderFrom w g r (run f k 0) ≡ r
+  pub from-none : (r : ℕ) (f : ℕ → ℕ) (k : ℕ) → remainderFrom w g r (listFrom f k 0) ≡ r
   unfolding remainderFrom
-  from-none r f k = ap (remainderFrom w g r) (run-none f k)
+  from-none r f k = ap (remainderFrom w g r) (list-none f k)
 
-  pub from-first : (r : ℕ) (f : ℕ → ℕ) (k n : ℕ) → remainderFrom w g r (run f k (suc n)) ≡ remainderFrom w g (next w g r (f k)) (run f (suc k) n)
+  pub from-first : (r : ℕ) (f : ℕ → ℕ) (k n : ℕ) → remainderFrom w g r (listFrom f k (suc n)) ≡ remainderFrom w g (next w g r (f k)) (listFrom f (suc k) n)
   unfolding remainderFrom
-  from-first r f k n = ap (remainderFrom w g r) (run-first f k n)
+  from-first r f k n = ap (remainderFrom w g r) (list-first f k n)
 
   -- along a number's digits
   pub no-digit : (r v : ℕ) → remainderFrom w g r (digits 0 v) ≡ r
@@ -51,16 +51,16 @@ module _ (w g : ℕ) where
 
   -- two streams over equal lengths
   from-linear : (f h : ℕ → ℕ) (k n r s : ℕ)
-      → remainderFrom w g (bitXor r s) (run (λ p. bitXor (f p) (h p)) k n) ≡ bitXor (remainderFrom w g r (run f k n)) (remainderFrom w g s (run h k n))
+      → remainderFrom w g (bitXor r s) (listFrom (λ p. bitXor (f p) (h p)) k n) ≡ bitXor (remainderFrom w g r (listFrom f k n)) (remainderFrom w g s (listFrom h k n))
   from-linear f h k zero r s = from-none (bitXor r s) (λ p. bitXor (f p) (h p)) k ∙ sym (ap₂ bitXor (from-none r f k) (from-none s h k))
   from-linear f h k (suc n) r s =
       from-first (bitXor r s) (λ p. bitXor (f p) (h p)) k n
-      ∙ ap (λ (x : ℕ). remainderFrom w g x (run (λ p. bitXor (f p) (h p)) (suc k) n)) (next-xor r s (f k) (h k))
+      ∙ ap (λ (x : ℕ). remainderFrom w g x (listFrom (λ p. bitXor (f p) (h p)) (suc k) n)) (next-xor r s (f k) (h k))
       ∙ from-linear f h (suc k) n (next w g r (f k)) (next w g s (h k))
       ∙ sym (ap₂ bitXor (from-first r f k n) (from-first s h k n))
 
   -- the remainder of two streams' sum is the sum of their remainders
-  pub linear : (f h : ℕ → ℕ) (k n : ℕ) → remainder w g (run (λ p. bitXor (f p) (h p)) k n) ≡ bitXor (remainder w g (run f k n)) (remainder w g (run h k n))
+  pub linear : (f h : ℕ → ℕ) (k n : ℕ) → remainder w g (listFrom (λ p. bitXor (f p) (h p)) k n) ≡ bitXor (remainder w g (listFrom f k n)) (remainder w g (listFrom h k n))
   unfolding remainder
   linear f h k n = from-linear f h k n 0 0
 

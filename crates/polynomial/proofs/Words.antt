@@ -8,10 +8,10 @@ use lib.ListN.{length, getD}
 use lib.Dec.{T, eqb, lit≤}
 use lib.Pow.{shl-exact}
 use lib.Bits.{bitXor}
-use Rattle.bits.specs.Order.{bitAt, bitsOf, run, number, digits, wordBit, octetsIn}
+use Rattle.bits.specs.Order.{bitAt, bitsOf, listFrom, number, digits, wordBit, octetsIn}
 use Rattle.bits.proofs.Xor.{xor-swap}
 use Rattle.bits.proofs.Additive.{Additive, shift-right, shift-left, low-bits, after}
-use Rattle.bits.proofs.Runs.{run-append, digits-number, from-start}
+use Rattle.bits.proofs.Lists.{list-append, digits-number, from-start}
 use Rattle.bits.proofs.WordLists.{wordBit-lt, number-word, bitsOf-octetsIn}
 use Rattle.bits.proofs.Tests.{every}
 use Rattle.polynomial.specs.Polynomial.{scale, timesX}
@@ -106,34 +106,34 @@ left-over r word wide h l e =
 
 module _ (w g : ℕ) where
   -- the bits before place a, and then n more
-  before : (f : ℕ → ℕ) (a n k m : ℕ) → k ≡ a → a + n ≡ m → remainderFrom w g (remainderFrom w g 0 (run f 0 a)) (run f k n) ≡ remainderFrom w g 0 (run f 0 m)
+  before : (f : ℕ → ℕ) (a n k m : ℕ) → k ≡ a → a + n ≡ m → remainderFrom w g (remainderFrom w g 0 (listFrom f 0 a)) (listFrom f k n) ≡ remainderFrom w g 0 (listFrom f 0 m)
   before f a n k m p e =
-      ap (λ (k : ℕ). remainderFrom w g (remainderFrom w g 0 (run f 0 a)) (run f k n)) (p ∙ sym (zero-add a))
-      ∙ sym (from-append w g 0 (run f 0 a) (run f (0 + a) n))
-      ∙ ap (remainderFrom w g 0) (sym (run-append f 0 a n) ∙ ap (run f 0) e)
+      ap (λ (k : ℕ). remainderFrom w g (remainderFrom w g 0 (listFrom f 0 a)) (listFrom f k n)) (p ∙ sym (zero-add a))
+      ∙ sym (from-append w g 0 (listFrom f 0 a) (listFrom f (0 + a) n))
+      ∙ ap (remainderFrom w g 0) (sym (list-append f 0 a n) ∙ ap (listFrom f 0) e)
 
   -- a word more
-  pub word-more : (f : ℕ → ℕ) → ((k : ℕ) → f k < 2) → (i k s word : ℕ) → k ≡ 64 * i → s ≡ remainderFrom w g 0 (run f 0 (64 * i)) → word ≡ number f k 64
-      → remainderFrom w g s (digits 64 word) ≡ remainderFrom w g 0 (run f 0 (64 * (i + 1)))
+  pub word-more : (f : ℕ → ℕ) → ((k : ℕ) → f k < 2) → (i k s word : ℕ) → k ≡ 64 * i → s ≡ remainderFrom w g 0 (listFrom f 0 (64 * i)) → word ≡ number f k 64
+      → remainderFrom w g s (digits 64 word) ≡ remainderFrom w g 0 (listFrom f 0 (64 * (i + 1)))
   word-more f d i k s word at p e =
       ap₂ (remainderFrom w g) p (ap (digits 64) e ∙ digits-number f d k 64)
       ∙ before f (64 * i) 64 k (64 * (i + 1)) at (omega arith)
 
   -- the words of a list: the next, and all
   module _ (words : List ℕ) where
-    pub word-next : (i s : ℕ) → getD words i 0 < 2 ^ 64 → s ≡ remainderFrom w g 0 (run (wordBit words) 0 (64 * i))
-        → remainderFrom w g s (digits 64 (getD words i 0)) ≡ remainderFrom w g 0 (run (wordBit words) 0 (64 * (i + 1)))
+    pub word-next : (i s : ℕ) → getD words i 0 < 2 ^ 64 → s ≡ remainderFrom w g 0 (listFrom (wordBit words) 0 (64 * i))
+        → remainderFrom w g s (digits 64 (getD words i 0)) ≡ remainderFrom w g 0 (listFrom (wordBit words) 0 (64 * (i + 1)))
     word-next i s h p = word-more (wordBit words) (wordBit-lt words) i (64 * i) s (getD words i 0) refl p (sym (number-word words i h))
 
-    pub words-all : remainderFrom w g 0 (run (wordBit words) 0 (64 * length words)) ≡ remainder w g (bitsOf (octetsIn words))
+    pub words-all : remainderFrom w g 0 (listFrom (wordBit words) 0 (64 * length words)) ≡ remainder w g (bitsOf (octetsIn words))
     unfolding remainder
     words-all = ap (remainderFrom w g 0) (sym (bitsOf-octetsIn words))
 
   -- the octets that fill no word
-  pub words-rest : (octets : List ℕ) (count s : ℕ) → 8 * count ≤ length octets → s ≡ remainderFrom w g 0 (run (bitAt octets) 0 (64 * count))
-      → remainderFrom w g s (run (bitAt octets) (8 * (8 * count)) (8 * (length octets - 8 * count))) ≡ remainder w g (bitsOf octets)
+  pub words-rest : (octets : List ℕ) (count s : ℕ) → 8 * count ≤ length octets → s ≡ remainderFrom w g 0 (listFrom (bitAt octets) 0 (64 * count))
+      → remainderFrom w g s (listFrom (bitAt octets) (8 * (8 * count)) (8 * (length octets - 8 * count))) ≡ remainder w g (bitsOf octets)
   unfolding remainder
   words-rest octets count s h p =
-      ap (λ (r : ℕ). remainderFrom w g r (run (bitAt octets) (8 * (8 * count)) (8 * (length octets - 8 * count)))) p
+      ap (λ (r : ℕ). remainderFrom w g r (listFrom (bitAt octets) (8 * (8 * count)) (8 * (length octets - 8 * count)))) p
       ∙ before (bitAt octets) (64 * count) (8 * (length octets - 8 * count)) (8 * (8 * count)) (8 * (length octets - 0)) (omega arith) (omega arith)
       ∙ ap (remainderFrom w g 0) (from-start octets)

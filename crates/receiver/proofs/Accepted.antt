@@ -11,10 +11,10 @@ use Rattle.bits.specs.Choice.{pick}
 use Rattle.bits.specs.Order.{bitAt}
 use Rattle.bits.proofs.Numbers.{bitAt-lt, number-lt}
 use Rattle.frame.specs.Modes.{Row}
-use Rattle.frame.specs.Lane.{syncBit, spoiltBit}
-use Rattle.frame.specs.SyncWord.{markedCommand}
+use Rattle.frame.specs.Lane.{syncBit, invalidBit}
+use Rattle.frame.specs.SyncWord.{flaggedCommand}
 use Rattle.frame.proofs.Lane.{syncBit-lt}
-use Rattle.frame.proofs.SyncWord.{markedCommand-lt, no-marked-command}
+use Rattle.frame.proofs.SyncWord.{flaggedCommand-lt, no-flagged-command}
 use Rattle.receiver.specs.declared.Receiver.{Receiver}
 use Rattle.receiver.specs.Release.{Step, fresh, mendedAt, waitingAt, step, run}
 use Rattle.receiver.specs.Refusal.{commandBound, allZero, stateFits}
@@ -22,19 +22,19 @@ use Rattle.receiver.specs.Turn.{asFresh}
 use Rattle.receiver.proofs.Refusals.{waiting-fits, idle-fits}
 
 -- a command that was read is in its range
-command-fits : (R : Row) (bits bad : ℕ → ℕ) → ((t : ℕ) → bits t < 2) → markedCommand R bits bad < commandBound R
+command-fits : (R : Row) (bits invalid₁ : ℕ → ℕ) → ((t : ℕ) → bits t < 2) → flaggedCommand R bits invalid₁ < commandBound R
 unfolding commandBound
-command-fits R bits bad d = by (ℕ-discrete (R .commandWidth) 0)
+command-fits R bits invalid₁ d = by (ℕ-discrete (R .commandWidth) 0)
   where
-    by : Dec (R .commandWidth ≡ 0) → markedCommand R bits bad < pick (eqb (R .commandWidth) 0) 1 (2 ^ (R .commandWidth + 1))
-    by (yes e) = rw (eq-eqb (R .commandWidth) 0 e, no-marked-command R e bits bad) (omega arith)
-    by (no n) = rw (ne-eqb (R .commandWidth) 0 n) (markedCommand-lt R bits d bad)
+    by : Dec (R .commandWidth ≡ 0) → flaggedCommand R bits invalid₁ < pick (eqb (R .commandWidth) 0) 1 (2 ^ (R .commandWidth + 1))
+    by (yes e) = rw (eq-eqb (R .commandWidth) 0 e, no-flagged-command R e bits invalid₁) (omega arith)
+    by (no n) = rw (ne-eqb (R .commandWidth) 0 n) (flaggedCommand-lt R bits d invalid₁)
 
 module _ (R : Row) (lane : ℕ → ℕ) where
   waiting-accepted : (m history : ℕ) (trusted : Bool) → history < 2 ^ 58 → stateFits R (waitingAt R lane m history trusted) ≡ true
   unfolding waitingAt
   waiting-accepted m history trusted h =
-      sym (waiting-fits R _ h (command-fits R (syncBit (R .gap) lane m) (spoiltBit (R .gap) lane m) (syncBit-lt (R .gap) lane m)) refl)
+      sym (waiting-fits R _ h (command-fits R (syncBit (R .gap) lane m) (invalidBit (R .gap) lane m) (syncBit-lt (R .gap) lane m)) refl)
 
   either : (w : Bool) (a b : Step) → stateFits R (a .state) ≡ true → stateFits R (b .state) ≡ true → stateFits R (pick w a b .state) ≡ true
   either true a b h k = h

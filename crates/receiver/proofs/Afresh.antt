@@ -12,7 +12,7 @@ use Rattle.frame.specs.Modes.{row}
 use Rattle.frame.proofs.Sizes.{row-octets}
 use Rattle.receiver.specs.Release.{Release, fresh, run}
 use Rattle.receiver.specs.Refusal.{releases, refusalOf}
-use Rattle.receiver.specs.Entry.{listed, laidOut, entry}
+use Rattle.receiver.specs.Entry.{column, laidOut, entry}
 use Rattle.receiver.specs.Turn.{Room, roomFor}
 use Rattle.receiver.proofs.Accepted.{fresh-accepted}
 use Rattle.receiver.proofs.Refusals.{refusal-is}
@@ -42,8 +42,8 @@ unfolding releases
 all-but-one mode lane n = counts (row mode) lane fresh n
 
 -- a list of releases, by number
-pub listed-at : (f : Release → ℕ) (out : List Release) (k : ℕ) (d : Release) → k < length out → getD (listed f out) k 0 ≡ f (getD out k d)
-unfolding listed
-listed-at f [] k d h = absurd (not-suc-le-zero h)
-listed-at f (r ∷ out) zero d h = refl
-listed-at f (r ∷ out) (suc k) d h = listed-at f out k d (omega arith)
+pub column-at : (f : Release → ℕ) (out : List Release) (k : ℕ) (d : Release) → k < length out → getD (column f out) k 0 ≡ f (getD out k d)
+unfolding column
+column-at f [] k d h = absurd (not-suc-le-zero h)
+column-at f (r ∷ out) zero d h = refl
+column-at f (r ∷ out) (suc k) d h = column-at f out k d (omega arith)

@@ -20,7 +20,7 @@ use Rattle.receiver.specs.declared.Received.{Received}
 use Rattle.receiver.specs.declared.run.Begun.{Begun}
 use Rattle.receiver.specs.Release.{Step, waitingAt, run}
 use Rattle.receiver.specs.Refusal.{releases, refusalOf}
-use Rattle.receiver.specs.Entry.{done, laidOut, octetsOut, listed, entry}
+use Rattle.receiver.specs.Entry.{done, laidOut, octetsOut, column, entry}
 use Rattle.receiver.specs.Turn.{begunBy, Room}
 use Rattle.receiver.proofs.Counts.{step-first}
 use Rattle.receiver.proofs.Cut.{then, run-cut, bits-from}

@@ -11,23 +11,23 @@ use Rattle.scrambler.proofs.Scrambling.{length-descrambled}
 use Rattle.frame.specs.Modes.{Row}
 use Rattle.receiver.specs.declared.Receiver.{Receiver}
 use Rattle.receiver.specs.Release.{Release, Step, mendedAt, releaseAt, run}
-use Rattle.receiver.specs.Entry.{octetsOut, listed}
+use Rattle.receiver.specs.Entry.{octetsOut, column}
 use Rattle.receiver.proofs.Counts.{run-more}
 
-pub listed-more : (f : Release → ℕ) (out : List Release) (r : Release) → listed f (out ++ (r ∷ [])) ≡ listed f out ++ (f r ∷ [])
-unfolding listed
-listed-more f [] r = refl
-listed-more f (x ∷ out) r = ap (λ (l : List ℕ). f x ∷ l) (listed-more f out r)
+pub column-more : (f : Release → ℕ) (out : List Release) (r : Release) → column f (out ++ (r ∷ [])) ≡ column f out ++ (f r ∷ [])
+unfolding column
+column-more f [] r = refl
+column-more f (x ∷ out) r = ap (λ (l : List ℕ). f x ∷ l) (column-more f out r)
 
 pub octets-more : (out : List Release) (r : Release) → octetsOut (out ++ (r ∷ [])) ≡ octetsOut out ++ r .octets
 unfolding octetsOut
 octets-more [] r = append-nil (r .octets)
 octets-more (x ∷ out) r = ap (λ (l : List ℕ). x .octets ++ l) (octets-more out r) ∙ sym (append-assoc (x .octets) (octetsOut out) (r .octets))
 
-pub listed-length : (f : Release → ℕ) (out : List Release) → length (listed f out) ≡ length out
-unfolding listed
-listed-length f [] = refl
-listed-length f (x ∷ out) = ap suc (listed-length f out)
+pub column-length : (f : Release → ℕ) (out : List Release) → length (column f out) ≡ length out
+unfolding column
+column-length f [] = refl
+column-length f (x ∷ out) = ap suc (column-length f out)
 
 module _ (R : Row) (lane : ℕ → ℕ) where
   pub release-length : (m : ℕ) (s : Receiver) → length (releaseAt R lane m s .octets) ≡ 256

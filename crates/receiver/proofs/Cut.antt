@@ -12,13 +12,13 @@ use Rattle.bits.specs.Order.{bitAt, number}
 use Rattle.bits.proofs.Octets.{bit-drop}
 use Rattle.scrambler.specs.Scrambling.{descrambled}
 use Rattle.frame.specs.Modes.{Row, row}
-use Rattle.frame.specs.Lane.{laneOctets, dataBit, syncBit, spoiltBit}
-use Rattle.frame.specs.SyncWord.{readParity, markedCommand}
-use Rattle.frame.proofs.Lane.{laneFrom, octets-moved, sync-moved, spoilt-moved, same-octets}
+use Rattle.frame.specs.Lane.{laneOctets, dataBit, syncBit, invalidBit}
+use Rattle.frame.specs.SyncWord.{readParity, flaggedCommand}
+use Rattle.frame.proofs.Lane.{laneFrom, octets-moved, sync-moved, invalid-moved, same-octets}
 use Rattle.frame.proofs.Sizes.{row-octets}
 use Rattle.receiver.specs.declared.Receiver.{Receiver}
 use Rattle.receiver.specs.declared.run.Heard.{Heard}
-use Rattle.judge.specs.Judge.{judged, mended, marked, trustedAfter}
+use Rattle.judge.specs.Judge.{judged, mended, releasedStatus, trustedAfter}
 use Rattle.receiver.specs.Release.{Release, Step, verdictAt, mendedAt, releaseAt, waitingAt, step, run}
 use Rattle.receiver.specs.Turn.{heardAt}
 
@@ -31,7 +31,7 @@ module _ (R : Row) (s : Receiver) where
   releaseOn : Heard → Release
   releaseOn h = record {
     octets = descrambled (mendedOn h) (s .history) 256;
-    status = marked (judged R (s .octets) (h .parity)) (s .trusted);
+    status = releasedStatus (judged R (s .octets) (h .parity)) (s .trusted);
     command = s .command;
     place = judged R (s .octets) (h .parity) .place;
     pattern = judged R (s .octets) (h .parity) .pattern;
@@ -78,7 +78,7 @@ same-run R f g s (suc n) e =
 pub same-reading : (R : Row) (f g : ℕ → ℕ) (s : Receiver) (n : ℕ)
     → ((m q : ℕ) → m < n → q < 2048 → dataBit (R .gap) f m q ≡ dataBit (R .gap) g m q)
     → ((m : ℕ) → m < n → readParity R (syncBit (R .gap) f m) ≡ readParity R (syncBit (R .gap) g m))
-    → ((m : ℕ) → m < n → markedCommand R (syncBit (R .gap) f m) (spoiltBit (R .gap) f m) ≡ markedCommand R (syncBit (R .gap) g m) (spoiltBit (R .gap) g m))
+    → ((m : ℕ) → m < n → flaggedCommand R (syncBit (R .gap) f m) (invalidBit (R .gap) f m) ≡ flaggedCommand R (syncBit (R .gap) g m) (invalidBit (R .gap) g m))
     → run R f s n ≡ run R g s n
 same-reading R f g s n same-data same-parity same-command = same-run R f g s n alike
   where
@@ -92,8 +92,8 @@ unfolding heardAt
 heard-moved R lane m =
     let g = R .gap in
     let sync : syncBit g lane m ≡ syncBit g (laneFrom g lane m) 0 = fun-ext (sync-moved g lane m) in
-    let bad : spoiltBit g lane m ≡ spoiltBit g (laneFrom g lane m) 0 = fun-ext (spoilt-moved g lane m) in
-    rw (octets-moved g lane m, sync, bad)
+    let invalid₁ : invalidBit g lane m ≡ invalidBit g (laneFrom g lane m) 0 = fun-ext (invalid-moved g lane m) in
+    rw (octets-moved g lane m, sync, invalid₁)
 
 module _ (R : Row) (lane : ℕ → ℕ) where
   pub heard-from : (a b : ℕ) → heardAt R lane (a + b) ≡ heardAt R (laneFrom (R .gap) lane a) b

@@ -17,10 +17,10 @@ use Rattle.frame.specs.SyncWord.{readParity}
 use Rattle.scrambler.specs.Scrambling.{descrambled}
 use Rattle.judge.specs.declared.Verdict.{Verdict}
 use Rattle.receiver.specs.declared.Receiver.{Receiver}
-use Rattle.judge.specs.Judge.{judged, mended, marked, trustedAfter}
+use Rattle.judge.specs.Judge.{judged, mended, releasedStatus, trustedAfter}
 use Rattle.receiver.specs.Release.{fresh, Release, Step, verdictAt, mendedAt, releaseAt, waitingAt, step, run}
 use Rattle.receiver.specs.Refusal.{releases}
-use Rattle.receiver.specs.Entry.{octetsOut, listed}
+use Rattle.receiver.specs.Entry.{octetsOut, column}
 use Rattle.receiver.proofs.Counts.{then-waits, step-released, step-first, counts}
 use Rattle.receiver.proofs.Buffers.{release-length}
 
@@ -63,7 +63,7 @@ module _ (R : Row) (lane : ℕ → ℕ) where
   unfolding releaseAt
   octets-are i = refl
 
-  pub status-is : (i : ℕ) → releaseAt R lane (suc i) (waiting i) .status ≡ marked (verdict i) (waiting i .trusted)
+  pub status-is : (i : ℕ) → releaseAt R lane (suc i) (waiting i) .status ≡ releasedStatus (verdict i) (waiting i .trusted)
   unfolding releaseAt
   status-is i = refl
 
@@ -114,19 +114,19 @@ unfolding octetsOut
 octets-append [] b = refl
 octets-append (r ∷ a) b = ap (λ (l : List ℕ). r .octets ++ l) (octets-append a b) ∙ sym (append-assoc (r .octets) (octetsOut a) (octetsOut b))
 
-pub listed-append : (f : Release → ℕ) (a b : List Release) → listed f (a ++ b) ≡ listed f a ++ listed f b
-unfolding listed
-listed-append f [] b = refl
-listed-append f (r ∷ a) b = ap (λ (l : List ℕ). f r ∷ l) (listed-append f a b)
+pub column-append : (f : Release → ℕ) (a b : List Release) → column f (a ++ b) ≡ column f a ++ column f b
+unfolding column
+column-append f [] b = refl
+column-append f (r ∷ a) b = ap (λ (l : List ℕ). f r ∷ l) (column-append f a b)
 
 -- nothing received releases nothing
 pub none-out : (R : Row) (lane : ℕ → ℕ) (s : Receiver) → octetsOut (run R lane s 0 .out) ≡ []
 unfolding run octetsOut
 none-out R lane s = refl
 
-pub none-listed : (f : Release → ℕ) (R : Row) (lane : ℕ → ℕ) (s : Receiver) → listed f (run R lane s 0 .out) ≡ []
-unfolding run listed
-none-listed f R lane s = refl
+pub none-column : (f : Release → ℕ) (R : Row) (lane : ℕ → ℕ) (s : Receiver) → column f (run R lane s 0 .out) ≡ []
+unfolding run column
+none-column f R lane s = refl
 
 -- each release has 256 octets
 module _ (R : Row) (lane : ℕ → ℕ) where
@@ -166,8 +166,8 @@ octet-at (r ∷ out) (suc i) j full h l =
     ∙ getD-append-add (r .octets) (octetsOut out) (256 * i + j) 0
     ∙ octet-at out i j (λ k q. full (suc k) (omega arith)) (omega arith) l
 
-pub listed-at : (f : Release → ℕ) (out : List Release) (i : ℕ) → i < length out → getD (listed f out) i 0 ≡ f (nth out i)
-unfolding listed
-listed-at f [] i h = absurd (not-suc-le-zero h)
-listed-at f (r ∷ out) zero h = refl
-listed-at f (r ∷ out) (suc i) h = listed-at f out i (omega arith)
+pub column-at : (f : Release → ℕ) (out : List Release) (i : ℕ) → i < length out → getD (column f out) i 0 ≡ f (nth out i)
+unfolding column
+column-at f [] i h = absurd (not-suc-le-zero h)
+column-at f (r ∷ out) zero h = refl
+column-at f (r ∷ out) (suc i) h = column-at f out i (omega arith)

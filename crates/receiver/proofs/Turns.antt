@@ -20,11 +20,11 @@ use Rattle.frame.specs.Modes.{Row, row}
 use Rattle.judge.specs.declared.Released.{Released}
 use Rattle.receiver.specs.declared.Receiver.{Receiver}
 use Rattle.receiver.specs.declared.run.Heard.{Heard}
-use Rattle.judge.specs.Judge.{judged, mended, marked, trustedAfter}
+use Rattle.judge.specs.Judge.{judged, mended, releasedStatus, trustedAfter}
 use Rattle.receiver.specs.Release.{Release, Step, verdictAt, mendedAt, releaseAt, waitingAt, step, run}
-use Rattle.receiver.specs.Entry.{octetsOut, listed, done, laidOut}
+use Rattle.receiver.specs.Entry.{octetsOut, column, done, laidOut}
 use Rattle.receiver.specs.Turn.{heardAt, Room, Turned}
-use Rattle.receiver.proofs.Buffers.{listed-more, listed-length, octets-more, release-length, octets-length}
+use Rattle.receiver.proofs.Buffers.{column-more, column-length, octets-more, release-length, octets-length}
 use Rattle.receiver.proofs.Counts.{run-more, run-waits, all-counted, counted}
 use Rattle.receiver.proofs.Cut.{same-step, same-release, heard-from, bits-from}
 
@@ -37,7 +37,7 @@ pub turned : (mode : ℕ) (s : Receiver) (lane : List ℕ) (k : ℕ) (o st c p q
     → heard ≡ heardAt (row mode) (bitAt lane) 0
     → r .refusal ≡ pick (ltb (length o) 256) 7 0
     → r .verdict ≡ judged (row mode) (s .octets) (heard .parity)
-    → r .status ≡ marked (r .verdict) (s .trusted)
+    → r .status ≡ releasedStatus (r .verdict) (s .trusted)
     → r .history ≡ number (bitAt (mended (r .verdict) (s .octets))) 1990 58
     → r .trusted ≡ trustedAfter (r .verdict)
     → o′ ≡ written (r .refusal) (descrambled (mended (r .verdict) (s .octets)) (s .history) 256) o
@@ -67,10 +67,10 @@ rest-of lane a = take-all (length lane - a) (drop a lane) (simp length-drop (ome
 pub record Held (R : Row) (lane : ℕ → ℕ) (start : Receiver) (k : ℕ) (s : Receiver) (o₀ st₀ c₀ p₀ q₀ o st c p q : List ℕ) : Type 0 where
   pub state : s ≡ run R lane start k .state
   pub octets : o ≡ laid (octetsOut (run R lane start k .out)) o₀
-  pub statuses : st ≡ laid (listed (λ (r : Release). r .status) (run R lane start k .out)) st₀
-  pub commands : c ≡ laid (listed (λ (r : Release). r .command) (run R lane start k .out)) c₀
-  pub places : p ≡ laid (listed (λ (r : Release). r .place) (run R lane start k .out)) p₀
-  pub patterns : q ≡ laid (listed (λ (r : Release). r .pattern) (run R lane start k .out)) q₀
+  pub statuses : st ≡ laid (column (λ (r : Release). r .status) (run R lane start k .out)) st₀
+  pub commands : c ≡ laid (column (λ (r : Release). r .command) (run R lane start k .out)) c₀
+  pub places : p ≡ laid (column (λ (r : Release). r .place) (run R lane start k .out)) p₀
+  pub patterns : q ≡ laid (column (λ (r : Release). r .pattern) (run R lane start k .out)) q₀
   pub octets-long : length o ≡ length o₀
   pub statuses-long : length st ≡ length st₀
   pub commands-long : length c ≡ length c₀
@@ -78,7 +78,7 @@ pub record Held (R : Row) (lane : ℕ → ℕ) (start : Receiver) (k : ℕ) (s :
   pub patterns-long : length q ≡ length q₀
 
 pub held-none : (R : Row) (lane : ℕ → ℕ) (start : Receiver) (o st c p q : List ℕ) → Held R lane start 0 start o st c p q o st c p q
-unfolding run octetsOut listed
+unfolding run octetsOut column
 held-none R lane start o st c p q = record {
   state = refl;
   octets = sym (laid-nothing o);
@@ -94,13 +94,13 @@ held-none R lane start o st c p q = record {
 }
 
 -- one list
-list-more : (f : Release → ℕ) (out : List Release) (r : Release) (k : ℕ) (old was now : List ℕ) → length out ≡ k → k < length old → was ≡ laid (listed f out) old → now ≡ set was k (f r)
-    → now ≡ laid (listed f (out ++ (r ∷ []))) old
+list-more : (f : Release → ℕ) (out : List Release) (r : Release) (k : ℕ) (old was now : List ℕ) → length out ≡ k → k < length old → was ≡ laid (column f out) old → now ≡ set was k (f r)
+    → now ≡ laid (column f (out ++ (r ∷ []))) old
 list-more f out r k old was now l h e e′ =
-    let here : length (listed f out) ≡ k = listed-length f out ∙ l in
+    let here : length (column f out) ≡ k = column-length f out ∙ l in
     e′ ∙ ap₂ (λ (x : List ℕ) (j : ℕ). set x j (f r)) e (sym here)
-    ∙ laid-set (listed f out) old (f r) (omega arith)
-    ∙ ap (λ (x : List ℕ). laid x old) (sym (listed-more f out r))
+    ∙ laid-set (column f out) old (f r) (omega arith)
+    ∙ ap (λ (x : List ℕ). laid x old) (sym (column-more f out r))
 
 module _ (mode : ℕ) (lane : List ℕ) (start : Receiver) (k n : ℕ) (s : Receiver) (o₀ st₀ c₀ p₀ q₀ o st c p q : List ℕ) (w : start .waiting ≡ true) (less : k < n)
     (room : Room n (length o₀) (length st₀) (length c₀) (length p₀) (length q₀)) (h : Held (row mode) (bitAt lane) start k s o₀ st₀ c₀ p₀ q₀ o st c p q) where
@@ -132,16 +132,16 @@ module _ (mode : ℕ) (lane : List ℕ) (start : Receiver) (k n : ℕ) (s : Rece
             ∙ ap (λ (x : List Release). laid (octetsOut x) o₀) outs;
         statuses =
             list-more (λ (x : Release). x .status) (was .out) out k st₀ st st′ l (omega (arith, room .statuses-fit)) (h .statuses) (t .statuses ∙ ap (λ (x : Release). set st k (x .status)) is)
-            ∙ ap (λ (x : List Release). laid (listed (λ (y : Release). y .status) x) st₀) outs;
+            ∙ ap (λ (x : List Release). laid (column (λ (y : Release). y .status) x) st₀) outs;
         commands =
             list-more (λ (x : Release). x .command) (was .out) out k c₀ c c′ l (omega (arith, room .commands-fit)) (h .commands) (t .commands ∙ ap (λ (x : Release). set c k (x .command)) is)
-            ∙ ap (λ (x : List Release). laid (listed (λ (y : Release). y .command) x) c₀) outs;
+            ∙ ap (λ (x : List Release). laid (column (λ (y : Release). y .command) x) c₀) outs;
         places =
             list-more (λ (x : Release). x .place) (was .out) out k p₀ p p′ l (omega (arith, room .places-fit)) (h .places) (t .places ∙ ap (λ (x : Release). set p k (x .place)) is)
-            ∙ ap (λ (x : List Release). laid (listed (λ (y : Release). y .place) x) p₀) outs;
+            ∙ ap (λ (x : List Release). laid (column (λ (y : Release). y .place) x) p₀) outs;
         patterns =
             list-more (λ (x : Release). x .pattern) (was .out) out k q₀ q q′ l (omega (arith, room .patterns-fit)) (h .patterns) (t .patterns ∙ ap (λ (x : Release). set q k (x .pattern)) is)
-            ∙ ap (λ (x : List Release). laid (listed (λ (y : Release). y .pattern) x) q₀) outs;
+            ∙ ap (λ (x : List Release). laid (column (λ (y : Release). y .pattern) x) q₀) outs;
         octets-long = same-len-mid (256 * k) (length o - 256 * k) o part lp ∙ h .octets-long;
         statuses-long = ap length (t .statuses) ∙ length-set st k _ ∙ h .statuses-long;
         commands-long = ap length (t .commands) ∙ length-set c k _ ∙ h .commands-long;
@@ -156,7 +156,7 @@ held-all R lane start k n s o₀ st₀ c₀ p₀ q₀ o st c p q w e h =
     rw (h .state, h .octets, h .statuses, h .commands, h .places, h .patterns, ← e)
     (ap (λ (j : ℕ). done (record { refusal = 0; count = j; state = run R lane start k .state })
     (laid (octetsOut (run R lane start k .out)) o₀)
-    (laid (listed (λ (r : Release). r .status) (run R lane start k .out)) st₀)
-    (laid (listed (λ (r : Release). r .command) (run R lane start k .out)) c₀)
-    (laid (listed (λ (r : Release). r .place) (run R lane start k .out)) p₀)
-    (laid (listed (λ (r : Release). r .pattern) (run R lane start k .out)) q₀)) (sym (counted R lane start k (λ l. w (omega arith)))))
+    (laid (column (λ (r : Release). r .status) (run R lane start k .out)) st₀)
+    (laid (column (λ (r : Release). r .command) (run R lane start k .out)) c₀)
+    (laid (column (λ (r : Release). r .place) (run R lane start k .out)) p₀)
+    (laid (column (λ (r : Release). r .pattern) (run R lane start k .out)) q₀)) (sym (counted R lane start k (λ l. w (omega arith)))))

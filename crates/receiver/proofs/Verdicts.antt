@@ -9,9 +9,9 @@ use Rattle.frame.specs.Modes.{Row}
 use Rattle.frame.specs.Lane.{syncBit}
 use Rattle.frame.specs.SyncWord.{readParity}
 use Rattle.judge.specs.declared.Verdict.{Verdict}
-use Rattle.judge.specs.Judge.{judged, marked}
+use Rattle.judge.specs.Judge.{judged, releasedStatus}
 use Rattle.judge.proofs.Verdicts.{Cases, Judged, verdict-cases}
-use Rattle.judge.proofs.Judging.{marked-trusted, marked-untrusted}
+use Rattle.judge.proofs.Judging.{status-trusted, status-untrusted}
 use Rattle.receiver.specs.declared.Receiver.{Receiver}
 use Rattle.receiver.specs.Release.{Release, Step, verdictAt, releaseAt, step, run}
 use Rattle.receiver.proofs.Counts.{step-released, step-first}
@@ -32,14 +32,14 @@ module _ (R : Row) (lane : ℕ → ℕ) where
       j : Judged v
       j = verdict-cases R (s .octets) (readParity R (syncBit (R .gap) lane m))
 
-      by : (t : Bool) → Released (record { octets = releaseAt R lane m s .octets; status = marked v t; command = s .command; place = v .place; pattern = v .pattern })
+      by : (t : Bool) → Released (record { octets = releaseAt R lane m s .octets; status = releasedStatus v t; command = s .command; place = v .place; pattern = v .pattern })
       by true = record {
-        status = inl (omega (arith, marked-trusted v, j .status));
-        cases = subst (λ (x : ℕ). Cases x (v .place) (v .pattern)) {x = v .status} {y = marked v true % 4} (omega (arith, marked-trusted v, j .status)) (j .cases);
+        status = inl (omega (arith, status-trusted v, j .status));
+        cases = subst (λ (x : ℕ). Cases x (v .place) (v .pattern)) {x = v .status} {y = releasedStatus v true % 4} (omega (arith, status-trusted v, j .status)) (j .cases);
       }
       by false = record {
-        status = inr (omega (arith, marked-untrusted v), omega (arith, marked-untrusted v, j .status));
-        cases = subst (λ (x : ℕ). Cases x (v .place) (v .pattern)) {x = v .status} {y = marked v false % 4} (omega (arith, marked-untrusted v, j .status)) (j .cases);
+        status = inr (omega (arith, status-untrusted v), omega (arith, status-untrusted v, j .status));
+        cases = subst (λ (x : ℕ). Cases x (v .place) (v .pattern)) {x = v .status} {y = releasedStatus v false % 4} (omega (arith, status-untrusted v, j .status)) (j .cases);
       }
 
   -- each of a run

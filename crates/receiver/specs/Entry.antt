@@ -18,9 +18,9 @@ unfoldable pub octetsOut : List Release → List ℕ
 octetsOut [] = []
 octetsOut (r ∷ out) = r .octets ++ octetsOut out
 
-unfoldable pub listed : (Release → ℕ) → List Release → List ℕ
-listed f [] = []
-listed f (r ∷ out) = f r ∷ listed f out
+unfoldable pub column : (Release → ℕ) → List Release → List ℕ
+column f [] = []
+column f (r ∷ out) = f r ∷ column f out
 
 -- an answer, and the buffers at exit
 pub record Done : Type 0 where
@@ -39,10 +39,10 @@ abbrev pub laidOut : Step → List ℕ → List ℕ → List ℕ → List ℕ �
 laidOut t o s c p q =
     done (record { refusal = 0; count = length (t .out); state = t .state })
     (laid (octetsOut (t .out)) o)
-    (laid (listed (λ (r : Release). r .status) (t .out)) s)
-    (laid (listed (λ (r : Release). r .command) (t .out)) c)
-    (laid (listed (λ (r : Release). r .place) (t .out)) p)
-    (laid (listed (λ (r : Release). r .pattern) (t .out)) q)
+    (laid (column (λ (r : Release). r .status) (t .out)) s)
+    (laid (column (λ (r : Release). r .command) (t .out)) c)
+    (laid (column (λ (r : Release). r .place) (t .out)) p)
+    (laid (column (λ (r : Release). r .pattern) (t .out)) q)
 
 -- refused, with all as it was; or a run over all multiblocks of the lane
 unfoldable pub entry : ℕ → Receiver → List ℕ → List ℕ → List ℕ → List ℕ → List ℕ → List ℕ → Done

@@ -8,7 +8,7 @@ use Rattle.frame.specs.Modes.{Row, row}
 use Rattle.frame.specs.Lane.{laneOctets}
 use Rattle.receiver.specs.declared.Receiver.{Receiver}
 
--- commands are below this: the mode's width and its mark, or 0 alone where the mode has no command
+-- commands are below this: the mode's width and its flag, or 0 alone where the mode has no command
 unfoldable pub commandBound : Row → ℕ
 commandBound R = pick (eqb (R .commandWidth) 0) 1 (2 ^ (R .commandWidth + 1))
 

@@ -8,11 +8,11 @@ use Rattle.bits.specs.Choice.{pick}
 use Rattle.bits.specs.Order.{bitAt, number}
 use Rattle.scrambler.specs.Scrambling.{descrambled}
 use Rattle.frame.specs.Modes.{Row}
-use Rattle.frame.specs.Lane.{dataOctets, syncBit, spoiltBit}
-use Rattle.frame.specs.SyncWord.{readParity, markedCommand}
+use Rattle.frame.specs.Lane.{dataOctets, syncBit, invalidBit}
+use Rattle.frame.specs.SyncWord.{readParity, flaggedCommand}
 use Rattle.judge.specs.declared.Verdict.{Verdict}
 use Rattle.receiver.specs.declared.Receiver.{Receiver}
-use Rattle.judge.specs.Judge.{judged, mended, marked, trustedAfter}
+use Rattle.judge.specs.Judge.{judged, mended, releasedStatus, trustedAfter}
 
 -- nothing waiting, history 0 and no trust
 abbrev pub fresh : Receiver
@@ -41,7 +41,7 @@ module _ (R : Row) (lane : ℕ → ℕ) where
   unfoldable pub releaseAt : ℕ → Receiver → Release
   releaseAt m s = record {
     octets = descrambled (mendedAt m s) (s .history) 256;
-    status = marked (verdictAt m s) (s .trusted);
+    status = releasedStatus (verdictAt m s) (s .trusted);
     command = s .command;
     place = verdictAt m s .place;
     pattern = verdictAt m s .pattern;
@@ -54,7 +54,7 @@ module _ (R : Row) (lane : ℕ → ℕ) where
     octets = dataOctets (R .gap) lane m;
     history = history;
     trusted = trusted;
-    command = markedCommand R (syncBit (R .gap) lane m) (spoiltBit (R .gap) lane m);
+    command = flaggedCommand R (syncBit (R .gap) lane m) (invalidBit (R .gap) lane m);
   }
 
   -- multiblock m is received: the one that waits, if there is one, is released; the next history is its last 58 bits, mended

@@ -8,8 +8,8 @@ use lib.ListN.{length, set}
 use Rattle.bits.specs.Choice.{pick}
 use Rattle.bits.specs.Order.{bitAt, laid}
 use Rattle.frame.specs.Modes.{Row}
-use Rattle.frame.specs.Lane.{dataOctets, syncBit, spoiltBit}
-use Rattle.frame.specs.SyncWord.{readParity, markedCommand}
+use Rattle.frame.specs.Lane.{dataOctets, syncBit, invalidBit}
+use Rattle.frame.specs.SyncWord.{readParity, flaggedCommand}
 use Rattle.receiver.specs.declared.Receiver.{Receiver}
 use Rattle.receiver.specs.declared.run.Heard.{Heard}
 use Rattle.receiver.specs.declared.run.Begun.{Begun}
@@ -21,7 +21,7 @@ unfoldable pub heardAt : Row → (ℕ → ℕ) → ℕ → Heard
 heardAt R lane m = record {
   octets = dataOctets (R .gap) lane m;
   parity = readParity R (syncBit (R .gap) lane m);
-  command = markedCommand R (syncBit (R .gap) lane m) (spoiltBit (R .gap) lane m);
+  command = flaggedCommand R (syncBit (R .gap) lane m) (invalidBit (R .gap) lane m);
 }
 
 -- the state from which each multiblock received releases one, and how many of the lane's were taken for it

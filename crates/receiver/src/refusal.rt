@@ -34,7 +34,7 @@ fn as_fresh(state: Receiver) -> bool
     all_zero(&octets[..])
 }
 
-// Seven bits and a mark in mode 0, and no command in FEC mode.
+// Seven bits and a flag in mode 0, and no command in FEC mode.
 fn command_bound(mode: u8) -> u32
     ensures { λ r. ⌜ r ≡ commandBound (row mode) ⌝ }
 {

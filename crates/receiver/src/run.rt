@@ -26,7 +26,7 @@ fn hear(mode: u8, lane: &[u8]) -> Heard
     let mut octets = [0u8; 256];
     let headers = multiblock::read(lane, &mut octets[..]);
     let parity = sync::parity(mode, headers.bits);
-    let command = sync::command(mode, headers.bits, headers.bad);
+    let command = sync::command(mode, headers.bits, headers.invalid);
     Heard {
         octets,
         parity,

@@ -7,8 +7,8 @@ use Prim.Native.Nat.{ℕ, suc, _+_, _-_}
 use native.Mathlib.Omega.{arith}
 use lib.Dec.{T, eqb, eqb→eq}
 use lib.ListN.{length}
-use Rattle.bits.specs.Order.{run}
-use Rattle.bits.proofs.Runs.{run-one, run-first}
+use Rattle.bits.specs.Order.{listFrom}
+use Rattle.bits.proofs.Lists.{list-one, list-first}
 use Rattle.bits.proofs.Tests.{left, right}
 use Rattle.polynomial.specs.Polynomial.{timesX, power}
 use Rattle.polynomial.proofs.Polynomial.{timesPower-none, timesPower-suc}
@@ -29,15 +29,15 @@ module _ (w g : ℕ) where
       ∙ sym (timesPower-suc w g (length l) 1)
 
   -- of n positions, from position p on
-  from : (n x : ℕ) (l : List ℕ) (p : ℕ) → T (chain x l) → p + suc (length l) ≡ suc n → x ∷ l ≡ run (λ p. power w g (n - p)) p (suc (length l))
+  from : (n x : ℕ) (l : List ℕ) (p : ℕ) → T (chain x l) → p + suc (length l) ≡ suc n → x ∷ l ≡ listFrom (λ p. power w g (n - p)) p (suc (length l))
   from n x [] p t e =
-      ap (λ (y : ℕ). y ∷ []) (first x [] t ∙ ap (power w g) {x = 0} {y = n - p} (omega arith)) ∙ sym (run-one (λ p. power w g (n - p)) p)
+      ap (λ (y : ℕ). y ∷ []) (first x [] t ∙ ap (power w g) {x = 0} {y = n - p} (omega arith)) ∙ sym (list-one (λ p. power w g (n - p)) p)
   from n x (y ∷ l) p t e =
       ap₂ (λ (a : ℕ) (b : List ℕ). a ∷ b)
       (first x (y ∷ l) t ∙ ap (power w g) {x = suc (length l)} {y = n - p} (omega arith))
       (from n y l (suc p) (right (eqb x (timesX w g y)) (chain y l) t) (omega arith))
-      ∙ sym (run-first (λ p. power w g (n - p)) p (suc (length l)))
+      ∙ sym (list-first (λ p. power w g (n - p)) p (suc (length l)))
 
-  pub table : (n : ℕ) (l : List ℕ) → T (chained l) → length l ≡ suc n → l ≡ run (λ p. power w g (n - p)) 0 (suc n)
+  pub table : (n : ℕ) (l : List ℕ) → T (chained l) → length l ≡ suc n → l ≡ listFrom (λ p. power w g (n - p)) 0 (suc n)
   table n [] t e = absurd t
-  table n (x ∷ l) t e = from n x l 0 t (omega arith) ∙ ap (run (λ p. power w g (n - p)) 0) e
+  table n (x ∷ l) t e = from n x l 0 t (omega arith) ∙ ap (listFrom (λ p. power w g (n - p)) 0) e

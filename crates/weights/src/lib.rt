@@ -1,7 +1,7 @@
 // The weights of the 2,074 positions of an FEC codeword: document 01, "Parity". Entry p is x^(2073-p) modulo the FEC polynomial.
 ghost use mathlib.Core.Path.{_≡_};
 ghost use Prim.Native.Nat.{_-_};
-ghost use Rattle.bits.specs.Order.{run};
+ghost use Rattle.bits.specs.Order.{listFrom};
 ghost use Rattle.polynomial.specs.Polynomial.{power};
 
 const WEIGHTS: [u32; 2074] = [
@@ -2082,7 +2082,7 @@ const WEIGHTS: [u32; 2074] = [
 ];
 
 pub fn table() -> [u32; 2074]
-    ensures { λ r. ⌜ r ≡ run (λ p. power 26 0x0220211 (2073 - p)) 0 2074 ⌝ }
+    ensures { λ r. ⌜ r ≡ listFrom (λ p. power 26 0x0220211 (2073 - p)) 0 2074 ⌝ }
 {
     WEIGHTS
 }

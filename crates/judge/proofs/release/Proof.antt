@@ -38,8 +38,8 @@ slice-aggregate-history-of c = search needs
 history-of-requires : tie.Need-history-of-requires
 history-of-requires c κs = search needs
 
-mark-requires : tie.Need-mark-requires
-mark-requires c κs =
+released-status-requires : tie.Need-released-status-requires
+released-status-requires c κs =
     let a = c .before .before .before .before .before .before .before .before .before .before .before .args in
     let j = c .before .before .before .before .before .before .before .before .judge in
     small (row (a .mode)) (a .t2) (a .parity) (j .result) (j .ensures .0)
@@ -59,7 +59,7 @@ returns c =
     let refused = d .ensures .0 ∙ by-lent 256 (m .result) 256 (now (a .out)) (omega (arith, ap length (m .ensures), mended-length (j .result) (a .t2))) in
     let history-is = c .before .before .history-of .ensures ∙ ap (λ (x : List ℕ). number (bitAt x) 1990 58) (m .ensures) in
     let out-is = d .ensures .1 ∙ ap (λ (x : List ℕ). written (d .result) (descrambled x (a .history) 256) (now (a .out))) (m .ensures) in
-    (refused, (j .ensures .0, (c .before .mark .ensures, (history-is, (c .trusted-after .ensures, out-is)))))
+    (refused, (j .ensures .0, (c .before .released-status .ensures, (history-is, (c .trusted-after .ensures, out-is)))))
 
 pub release-spec : {M : Type 1} → statement M
 release-spec =
@@ -72,7 +72,7 @@ release-spec =
     descramble-multiblock-requires
     slice-aggregate-history-of
     history-of-requires
-    mark-requires
+    released-status-requires
     trusted-after-requires
     same-length
     returns)

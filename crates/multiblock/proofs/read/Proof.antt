@@ -13,7 +13,7 @@ use Rattle.bits.proofs.Laid.{laid-none, laid-word, length-laid-octets}
 use Rattle.bits.proofs.Parts.{few-given, few-lent, not-refused, untouched, answered}
 use Rattle.frame.specs.Lane.{dataBit, dataOctets}
 use Rattle.frame.proofs.Lane.{dataBit-lt}
-use Rattle.frame.proofs.Packing.{firstBit, secondBit, data-read, first-more, second-more, sync-read, spoilt-read, octets-read}
+use Rattle.frame.proofs.Packing.{firstBit, secondBit, data-read, first-more, second-more, sync-read, invalid-read, octets-read}
 use Rattle.multiblock.proofs.read.Statement.{statement}
 use Rattle.multiblock.proofs.read.Tie as tie
 
@@ -112,7 +112,7 @@ returns-3 c =
       (
         sync-read lane bits (l .first) (l .second) first second,
         (
-          spoilt-read lane bits (l .first) (l .second) first second,
+          invalid-read lane bits (l .first) (l .second) first second,
           l .inv .4 ∙ ap (λ (x : List ℕ). laid x (now (a .octets))) (octets-read lane (l .block) e) ∙ sym (answered 0 (dataOctets 0 lane 0) (now (a .octets)) refl),
         ),
       ),

@@ -6,7 +6,7 @@ use mathlib.Core.Bool.{false}
 use native.Mathlib.Omega.{arith}
 use lib.ListN.{length}
 use lib.Pow.{pow-pos}
-use Rattle.bits.specs.Order.{bitAt, run}
+use Rattle.bits.specs.Order.{bitAt, listFrom}
 use Rattle.polynomial.proofs.Remainder.{from-lt}
 use Rattle.polynomial.proofs.Words.{words-rest}
 use Rattle.parity.specs.Codeword.{parityOf}
@@ -23,7 +23,7 @@ mul-rest c = search needs
 rest-requires : tie.Need-rest-requires
 rest-requires c κs =
     let octets = c .before .before .args .octets .now in
-    (search needs, search needs, rw (c .crc12-words .ensures) (from-lt 12 0x30F (code-fits false) 0 (run (bitAt octets) 0 (64 * (length octets / 8))) (pow-pos 12)), omega arith)
+    (search needs, search needs, rw (c .crc12-words .ensures) (from-lt 12 0x30F (code-fits false) 0 (listFrom (bitAt octets) 0 (64 * (length octets / 8))) (pow-pos 12)), omega arith)
 
 returns : tie.Need-returns
 unfolding parityOf

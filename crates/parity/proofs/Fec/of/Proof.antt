@@ -6,7 +6,7 @@ use mathlib.Core.Bool.{true}
 use native.Mathlib.Omega.{arith}
 use lib.ListN.{length}
 use lib.Pow.{pow-pos}
-use Rattle.bits.specs.Order.{bitAt, run}
+use Rattle.bits.specs.Order.{bitAt, listFrom}
 use Rattle.polynomial.proofs.Remainder.{from-lt}
 use Rattle.polynomial.proofs.Words.{words-rest}
 use Rattle.parity.specs.Codeword.{parityOf}
@@ -23,7 +23,7 @@ mul-rest c = search needs
 rest-requires : tie.Need-rest-requires
 rest-requires c κs =
     let octets = c .before .before .args .octets .now in
-    (search needs, search needs, rw (c .fec-words .ensures) (from-lt 26 0x0220211 (code-fits true) 0 (run (bitAt octets) 0 (64 * (length octets / 8))) (pow-pos 26)), omega arith)
+    (search needs, search needs, rw (c .fec-words .ensures) (from-lt 26 0x0220211 (code-fits true) 0 (listFrom (bitAt octets) 0 (64 * (length octets / 8))) (pow-pos 26)), omega arith)
 
 returns : tie.Need-returns
 unfolding parityOf

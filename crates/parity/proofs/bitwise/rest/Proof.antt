@@ -5,7 +5,7 @@ use Prim.Native.Nat.{ℕ, _+_, _-_, _^_, _≤_, _<_}
 use mathlib.Core.Path.{_≡_, refl, sym, ap, _∙_}
 use native.Mathlib.Omega.{arith}
 use lib.ListN.{length}
-use Rattle.bits.proofs.Runs.{bitsFrom}
+use Rattle.bits.proofs.Lists.{bitsFrom}
 use Rattle.polynomial.specs.Remainder.{remainderFrom}
 use Rattle.polynomial.proofs.Remainder.{from-lt}
 use Rattle.polynomial.proofs.Register.{next-octets, no-octets}

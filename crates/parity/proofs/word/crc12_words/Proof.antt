@@ -5,7 +5,7 @@ use Prim.Native.Nat.{ℕ, _-_, _*_, _≤_}
 use mathlib.Core.Path.{_≡_, sym, ap, _∙_}
 use mathlib.Core.Bool.{false}
 use native.Mathlib.Omega.{arith}
-use Rattle.bits.specs.Order.{bitAt, run}
+use Rattle.bits.specs.Order.{bitAt, listFrom}
 use Rattle.bits.proofs.Numbers.{bitAt-lt}
 use Rattle.polynomial.specs.Remainder.{remainderFrom}
 use Rattle.polynomial.proofs.Remainder.{from-none, from-lt}
@@ -16,7 +16,7 @@ use Rattle.parity.proofs.word.crc12_words.Statement.{statement}
 use Rattle.parity.proofs.word.crc12_words.Tie as tie
 
 abbrev Inv-loop : tie.InvT-loop
-Inv-loop octets count s₀ i₀ s i = (i ≤ count) × (s ≡ remainderFrom 12 0x30F 0 (run (bitAt octets) 0 (64 * i)))
+Inv-loop octets count s₀ i₀ s i = (i ≤ count) × (s ≡ remainderFrom 12 0x30F 0 (listFrom (bitAt octets) 0 (64 * i)))
 
 abbrev μ-loop : tie.MeasureT-loop
 μ-loop octets count s₀ i₀ s i = count - i
@@ -35,7 +35,7 @@ crc12-word-requires : tie.Need-crc12-word-requires Inv-loop μ-loop
 crc12-word-requires c κs =
     let l = c .before .before .loop in
     let a = c .before .before .before .before .args in
-    rw (l .inv .1) (from-lt 12 0x30F (code-fits false) 0 (run (bitAt (a .octets .now)) 0 (64 * l .i)) (pow-pos 12))
+    rw (l .inv .1) (from-lt 12 0x30F (code-fits false) 0 (listFrom (bitAt (a .octets .now)) 0 (64 * l .i)) (pow-pos 12))
 
 add-i : tie.Need-add-i Inv-loop μ-loop
 add-i c = search needs
@@ -53,7 +53,7 @@ returns : tie.Need-returns Inv-loop μ-loop
 returns c =
     let l = c .before .loop in
     let e : l .i ≡ c .before .before .before .args .count = omega arith in
-    l .inv .1 ∙ ap (λ (i : ℕ). remainderFrom 12 0x30F 0 (run (bitAt (c .before .before .before .args .octets .now)) 0 (64 * i))) e
+    l .inv .1 ∙ ap (λ (i : ℕ). remainderFrom 12 0x30F 0 (listFrom (bitAt (c .before .before .before .args .octets .now)) 0 (64 * i))) e
 
 pub crc12-words-spec : {M : Type 1} → statement M
 crc12-words-spec =

@@ -5,7 +5,7 @@ use Prim.Native.Nat.{ℕ, _-_, _*_, _≤_}
 use mathlib.Core.Path.{_≡_, sym, ap, _∙_}
 use native.Mathlib.Omega.{arith}
 use lib.ListN.{length}
-use Rattle.bits.specs.Order.{wordBit, run}
+use Rattle.bits.specs.Order.{wordBit, listFrom}
 use Rattle.polynomial.specs.Remainder.{remainderFrom}
 use Rattle.polynomial.proofs.Remainder.{from-none, from-lt}
 use Rattle.polynomial.proofs.Words.{word-next}
@@ -16,7 +16,7 @@ use Rattle.parity.proofs.word.of_words.Statement.{statement}
 use Rattle.parity.proofs.word.of_words.Tie as tie
 
 abbrev Inv-loop : tie.InvT-loop
-Inv-loop fec words s₀ i₀ i-end s i = (i ≤ length words) × (i-end ≡ length words) × (s ≡ remainderFrom (codeOf fec .width) (codeOf fec .lower) 0 (run (wordBit words) 0 (64 * i)))
+Inv-loop fec words s₀ i₀ i-end s i = (i ≤ length words) × (i-end ≡ length words) × (s ≡ remainderFrom (codeOf fec .width) (codeOf fec .lower) 0 (listFrom (wordBit words) 0 (64 * i)))
 
 abbrev μ-loop : tie.MeasureT-loop
 μ-loop fec words s₀ i₀ i-end s i = length words - i
@@ -37,7 +37,7 @@ next-word-requires c κs =
     let l = c .before .before .loop in
     let a = c .before .before .before .before .args in
     let C = codeOf (a .fec) in
-    rw (l .inv .2) (from-lt (C .width) (C .lower) (code-fits (a .fec)) 0 (run (wordBit (a .words .now)) 0 (64 * l .i)) (pow-pos (C .width)))
+    rw (l .inv .2) (from-lt (C .width) (C .lower) (code-fits (a .fec)) 0 (listFrom (wordBit (a .words .now)) 0 (64 * l .i)) (pow-pos (C .width)))
 
 add-i : tie.Need-add-i Inv-loop μ-loop
 add-i c = search needs
@@ -58,7 +58,7 @@ returns c =
     let words = c .before .before .before .args .words .now in
     let e : l .i ≡ length words = omega arith in
     let C = codeOf (c .before .before .before .args .fec) in
-    l .inv .2 ∙ ap (λ (i : ℕ). remainderFrom (C .width) (C .lower) 0 (run (wordBit words) 0 (64 * i))) e
+    l .inv .2 ∙ ap (λ (i : ℕ). remainderFrom (C .width) (C .lower) 0 (listFrom (wordBit words) 0 (64 * i))) e
 
 pub of-words-spec : {M : Type 1} → statement M
 of-words-spec =

@@ -26,7 +26,7 @@ returns c =
     let a = c .before .before .before .before .before .before .args in
     let r = c .before .before .before .read in
     let e = r .ensures in
-    heard-is (a .mode) (now (a .lane)) (replicate 256 0) (c .before .before .before .before .before .before .pre) refl (r .result .refusal) (r .result .bits) (r .result .bad) (c .before .parity .result) (c .command .result) (r .last .1 .0)
+    heard-is (a .mode) (now (a .lane)) (replicate 256 0) (c .before .before .before .before .before .before .pre) refl (r .result .refusal) (r .result .bits) (r .result .invalid) (c .before .parity .result) (c .command .result) (r .last .1 .0)
     (e .0) (e .1 .0) (e .1 .1 .0) (e .1 .1 .1) (c .before .parity .ensures) (c .command .ensures)
 
 pub hear-spec : {M : Type 1} → statement M
