@@ -11,3 +11,4 @@ pub mod Octets
 pub mod WordLists
 pub mod Writing
 pub mod Parts
+pub mod Refusals

@@ -2,3 +2,4 @@
 pub mod Choice
 pub mod Order
 pub mod Parts
+pub mod Refusals
