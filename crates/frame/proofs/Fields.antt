@@ -12,7 +12,9 @@ use Rattle.bits.specs.Order.{number, digit}
 use Rattle.bits.proofs.Additive.{Additive, agree-test, shift-left, shift-right, masked, bit, both, after, digit-xor, numbered}
 use Rattle.bits.proofs.Numbers.{digit-lt, number-ext, number-xor}
 use Rattle.bits.proofs.Tests.{every}
-use Rattle.frame.specs.Modes.{Field, parity, command, mark, fixed, Row, crc12Row, fecRow}
+use Rattle.frame.specs.declared.modes.Sync.{Sync}
+use Rattle.frame.specs.declared.modes.Sync.the-variants.{Crc12, Fec}
+use Rattle.frame.specs.Modes.{Field, parity, command, mark, fixed, code, commandWidth}
 use Rattle.frame.specs.SyncWord.{held, syncWord, key, position, readParity, readCommand}
 use Rattle.frame.proofs.SyncWord.{fieldAt, place, held-lt}
 
@@ -30,11 +32,11 @@ ofCommand c (command k) = c / 2 ^ k % 2
 ofCommand c mark = 0
 ofCommand c (fixed b) = 0
 
-unfoldable pub parityShare : Row → ℕ → ℕ
-parityShare R p = number (λ t. ofParity p (fieldAt R t)) 0 32
+unfoldable pub parityShare : Sync → ℕ → ℕ
+parityShare S p = number (λ t. ofParity p (fieldAt S t)) 0 32
 
-unfoldable pub commandShare : Row → ℕ → ℕ
-commandShare R c = number (λ t. ofCommand c (fieldAt R t)) 0 32
+unfoldable pub commandShare : Sync → ℕ → ℕ
+commandShare S c = number (λ t. ofCommand c (fieldAt S t)) 0 32
 
 ofParity-lt : (p : ℕ) (x : Field) → ofParity p x < 2
 ofParity-lt p (parity k) = mod-lt (p / 2 ^ k) (zero-lt-suc 1)
@@ -60,13 +62,13 @@ ofCommand-xor (command k) a b = bit k a b
 ofCommand-xor mark a b = refl
 ofCommand-xor (fixed c) a b = refl
 
-parityShare-xor : (R : Row) → Additive (parityShare R)
+parityShare-xor : (S : Sync) → Additive (parityShare S)
 unfolding parityShare
-parityShare-xor R = numbered (λ p t. ofParity p (fieldAt R t)) (λ p t. ofParity-lt p (fieldAt R t)) (λ t. ofParity-xor (fieldAt R t)) 0 32
+parityShare-xor S = numbered (λ p t. ofParity p (fieldAt S t)) (λ p t. ofParity-lt p (fieldAt S t)) (λ t. ofParity-xor (fieldAt S t)) 0 32
 
-commandShare-xor : (R : Row) → Additive (commandShare R)
+commandShare-xor : (S : Sync) → Additive (commandShare S)
 unfolding commandShare
-commandShare-xor R = numbered (λ c t. ofCommand c (fieldAt R t)) (λ c t. ofCommand-lt c (fieldAt R t)) (λ t. ofCommand-xor (fieldAt R t)) 0 32
+commandShare-xor S = numbered (λ c t. ofCommand c (fieldAt S t)) (λ c t. ofCommand-lt c (fieldAt S t)) (λ t. ofCommand-xor (fieldAt S t)) 0 32
 
 held-parts : (p c e : ℕ) (x : Field) → held p c e x ≡ bitXor (bitXor (ofParity p x) (ofCommand c x)) (held 0 0 e x)
 unfolding held
@@ -76,16 +78,16 @@ held-parts p c e (command k) = sym (ap (λ (y : ℕ). bitXor (c / 2 ^ k % 2) (y 
 held-parts p c e mark = refl
 held-parts p c e (fixed b) = refl
 
-module _ (R : Row) (p c e : ℕ) where
+module _ (S : Sync) (p c e : ℕ) where
   abbrev shares : ℕ → ℕ
-  shares t = bitXor (ofParity p (fieldAt R t)) (ofCommand c (fieldAt R t))
+  shares t = bitXor (ofParity p (fieldAt S t)) (ofCommand c (fieldAt S t))
 
-  pub syncWord-parts : syncWord R p c e ≡ bitXor (bitXor (parityShare R p) (commandShare R c)) (syncWord R 0 0 e)
+  pub syncWord-parts : syncWord S p c e ≡ bitXor (bitXor (parityShare S p) (commandShare S c)) (syncWord S 0 0 e)
   unfolding syncWord parityShare commandShare
   syncWord-parts =
-      number-ext (λ t. held p c e (fieldAt R t)) (λ t. bitXor (shares t) (held 0 0 e (fieldAt R t))) 0 0 32 (λ t h. held-parts p c e (fieldAt R (0 + t)))
-      ∙ number-xor shares (λ t. held 0 0 e (fieldAt R t)) (λ t. xor-lt 1 _ _ (ofParity-lt p (fieldAt R t)) (ofCommand-lt c (fieldAt R t))) (λ t. held-lt 0 0 e (fieldAt R t)) 0 32
-      ∙ ap (λ (x : ℕ). bitXor x (syncWord R 0 0 e)) (number-xor (λ t. ofParity p (fieldAt R t)) (λ t. ofCommand c (fieldAt R t)) (λ t. ofParity-lt p (fieldAt R t)) (λ t. ofCommand-lt c (fieldAt R t)) 0 32)
+      number-ext (λ t. held p c e (fieldAt S t)) (λ t. bitXor (shares t) (held 0 0 e (fieldAt S t))) 0 0 32 (λ t h. held-parts p c e (fieldAt S (0 + t)))
+      ∙ number-xor shares (λ t. held 0 0 e (fieldAt S t)) (λ t. xor-lt 1 _ _ (ofParity-lt p (fieldAt S t)) (ofCommand-lt c (fieldAt S t))) (λ t. held-lt 0 0 e (fieldAt S t)) 0 32
+      ∙ ap (λ (x : ℕ). bitXor x (syncWord S 0 0 e)) (number-xor (λ t. ofParity p (fieldAt S t)) (λ t. ofCommand c (fieldAt S t)) (λ t. ofParity-lt p (fieldAt S t)) (λ t. ofCommand-lt c (fieldAt S t)) 0 32)
 
 -- ---- what is read is additive too
 
@@ -93,13 +95,13 @@ module _ (R : Row) (p c e : ℕ) where
 gathered-xor : (at : ℕ → ℕ) (n : ℕ) → Additive (λ (v : ℕ). number (λ j. digit 32 v (at j)) 0 n)
 gathered-xor at n = numbered (λ v j. digit 32 v (at j)) (λ v j. digit-lt 32 v (at j)) (λ j. digit-xor 32 (at j)) 0 n
 
-readParity-xor : (R : Row) → Additive (λ (v : ℕ). readParity R (digit 32 v))
+readParity-xor : (S : Sync) → Additive (λ (v : ℕ). readParity S (digit 32 v))
 unfolding readParity
-readParity-xor R = gathered-xor (λ j. place R (parity (R .code .width - 1 - j))) (R .code .width)
+readParity-xor S = gathered-xor (λ j. place S (parity (code S .width - 1 - j))) (code S .width)
 
-readCommand-xor : (R : Row) → Additive (λ (v : ℕ). readCommand R (digit 32 v))
+readCommand-xor : (S : Sync) → Additive (λ (v : ℕ). readCommand S (digit 32 v))
 unfolding readCommand
-readCommand-xor R = gathered-xor (λ j. place R (command (R .commandWidth - 1 - j))) (R .commandWidth)
+readCommand-xor S = gathered-xor (λ j. place S (command (commandWidth S - 1 - j))) (commandWidth S)
 
 -- ---- the code's shifts and masks
 
@@ -147,55 +149,55 @@ module _ (way : Move → ℕ → ℕ) (way-xor : (m : Move) → Additive (way m)
   joined-xor [] = λ a b. refl
   joined-xor (m ∷ l) = joinedTo-xor (way m) (way-xor m) l
 
-crc12-up : (p : ℕ) → p < 2 ^ 32 → joined up crc12Moves p ≡ parityShare crc12Row p
+crc12-up : (p : ℕ) → p < 2 ^ 32 → joined up crc12Moves p ≡ parityShare Crc12 p
 unfolding every parityShare number
-crc12-up = agree-test (joined up crc12Moves) (parityShare crc12Row) (joined-xor up up-xor crc12Moves) (parityShare-xor crc12Row) 32 tt
+crc12-up = agree-test (joined up crc12Moves) (parityShare Crc12) (joined-xor up up-xor crc12Moves) (parityShare-xor Crc12) 32 tt
 
-command-up : (c : ℕ) → c < 2 ^ 32 → joined up commandMoves c ≡ commandShare crc12Row c
+command-up : (c : ℕ) → c < 2 ^ 32 → joined up commandMoves c ≡ commandShare Crc12 c
 unfolding every commandShare number
-command-up = agree-test (joined up commandMoves) (commandShare crc12Row) (joined-xor up up-xor commandMoves) (commandShare-xor crc12Row) 32 tt
+command-up = agree-test (joined up commandMoves) (commandShare Crc12) (joined-xor up up-xor commandMoves) (commandShare-xor Crc12) 32 tt
 
-fec-up : (p : ℕ) → p < 2 ^ 32 → joined up fecMoves p ≡ parityShare fecRow p
+fec-up : (p : ℕ) → p < 2 ^ 32 → joined up fecMoves p ≡ parityShare Fec p
 unfolding every parityShare number
-fec-up = agree-test (joined up fecMoves) (parityShare fecRow) (joined-xor up up-xor fecMoves) (parityShare-xor fecRow) 32 tt
+fec-up = agree-test (joined up fecMoves) (parityShare Fec) (joined-xor up up-xor fecMoves) (parityShare-xor Fec) 32 tt
 
 -- there is no command in it
-fec-none-up : (c : ℕ) → c < 2 ^ 32 → 0 ≡ commandShare fecRow c
+fec-none-up : (c : ℕ) → c < 2 ^ 32 → 0 ≡ commandShare Fec c
 unfolding every commandShare number
-fec-none-up = agree-test (joined up []) (commandShare fecRow) (joined-xor up up-xor []) (commandShare-xor fecRow) 32 tt
+fec-none-up = agree-test (joined up []) (commandShare Fec) (joined-xor up up-xor []) (commandShare-xor Fec) 32 tt
 
-pub crc12-down : (v : ℕ) → v < 2 ^ 32 → joined down crc12Moves v ≡ readParity crc12Row (digit 32 v)
+pub crc12-down : (v : ℕ) → v < 2 ^ 32 → joined down crc12Moves v ≡ readParity Crc12 (digit 32 v)
 unfolding every readParity number digit position key
 crc12-down =
-    agree-test (joined down crc12Moves) (λ (v : ℕ). readParity crc12Row (digit 32 v)) (joined-xor down down-xor crc12Moves) (readParity-xor crc12Row) 32 tt
+    agree-test (joined down crc12Moves) (λ (v : ℕ). readParity Crc12 (digit 32 v)) (joined-xor down down-xor crc12Moves) (readParity-xor Crc12) 32 tt
 
-pub command-down : (v : ℕ) → v < 2 ^ 32 → joined down commandMoves v ≡ readCommand crc12Row (digit 32 v)
+pub command-down : (v : ℕ) → v < 2 ^ 32 → joined down commandMoves v ≡ readCommand Crc12 (digit 32 v)
 unfolding every readCommand number digit position key
 command-down =
-    agree-test (joined down commandMoves) (λ (v : ℕ). readCommand crc12Row (digit 32 v)) (joined-xor down down-xor commandMoves) (readCommand-xor crc12Row) 32 tt
+    agree-test (joined down commandMoves) (λ (v : ℕ). readCommand Crc12 (digit 32 v)) (joined-xor down down-xor commandMoves) (readCommand-xor Crc12) 32 tt
 
-pub fec-down : (v : ℕ) → v < 2 ^ 32 → joined down fecMoves v ≡ readParity fecRow (digit 32 v)
+pub fec-down : (v : ℕ) → v < 2 ^ 32 → joined down fecMoves v ≡ readParity Fec (digit 32 v)
 unfolding every readParity number digit position key
-fec-down = agree-test (joined down fecMoves) (λ (v : ℕ). readParity fecRow (digit 32 v)) (joined-xor down down-xor fecMoves) (readParity-xor fecRow) 32 tt
+fec-down = agree-test (joined down fecMoves) (λ (v : ℕ). readParity Fec (digit 32 v)) (joined-xor down down-xor fecMoves) (readParity-xor Fec) 32 tt
 
 -- ---- whole words
 
 -- the end mark, moved up to position 22, and the fixed bits
-crc12-rest : (b : Bool) → bitXor (boolByte b * 2 ^ 9 % 2 ^ 32) 0x11111501 ≡ syncWord crc12Row 0 0 (bitOf b)
+crc12-rest : (b : Bool) → bitXor (boolByte b * 2 ^ 9 % 2 ^ 32) 0x11111501 ≡ syncWord Crc12 0 0 (bitOf b)
 unfolding syncWord number held
 crc12-rest true = refl
 crc12-rest false = refl
 
-fec-rest : (b : Bool) → bitXor (boolByte b * 2 ^ 9 % 2 ^ 32) 1 ≡ syncWord fecRow 0 0 (bitOf b)
+fec-rest : (b : Bool) → bitXor (boolByte b * 2 ^ 9 % 2 ^ 32) 1 ≡ syncWord Fec 0 0 (bitOf b)
 unfolding syncWord number held
 fec-rest true = refl
 fec-rest false = refl
 
 module _ (p c : ℕ) (hp : p < 2 ^ 32) (hc : c < 2 ^ 32) (b : Bool) where
-  pub crc12-word : bitXor (bitXor (joined up crc12Moves p) (joined up commandMoves c)) (bitXor (boolByte b * 2 ^ 9 % 2 ^ 32) 0x11111501) ≡ syncWord crc12Row p c (bitOf b)
-  crc12-word = ap₂ bitXor (ap₂ bitXor (crc12-up p hp) (command-up c hc)) (crc12-rest b) ∙ sym (syncWord-parts crc12Row p c (bitOf b))
+  pub crc12-word : bitXor (bitXor (joined up crc12Moves p) (joined up commandMoves c)) (bitXor (boolByte b * 2 ^ 9 % 2 ^ 32) 0x11111501) ≡ syncWord Crc12 p c (bitOf b)
+  crc12-word = ap₂ bitXor (ap₂ bitXor (crc12-up p hp) (command-up c hc)) (crc12-rest b) ∙ sym (syncWord-parts Crc12 p c (bitOf b))
 
-  pub fec-word : bitXor (joined up fecMoves p) (bitXor (boolByte b * 2 ^ 9 % 2 ^ 32) 1) ≡ syncWord fecRow p c (bitOf b)
+  pub fec-word : bitXor (joined up fecMoves p) (bitXor (boolByte b * 2 ^ 9 % 2 ^ 32) 1) ≡ syncWord Fec p c (bitOf b)
   fec-word =
       ap₂ bitXor (sym (xor-zero-r (joined up fecMoves p)) ∙ ap₂ bitXor (fec-up p hp) (fec-none-up c hc)) (fec-rest b)
-      ∙ sym (syncWord-parts fecRow p c (bitOf b))
+      ∙ sym (syncWord-parts Fec p c (bitOf b))

@@ -1,10 +1,9 @@
 -- Laws of headers, sync words, blocks and multiblocks that no one function owns.
 pub mod SyncWord
 pub mod Fields
-pub mod Dozen
 pub mod Lane
 pub mod Packing
 pub mod Sizes
 pub mod Places
 pub mod Headers
-pub mod Modes
+pub mod Rows

@@ -14,90 +14,77 @@ use Rattle.bits.specs.Choice.{pick}
 use Rattle.bits.specs.Order.{number, digit}
 use Rattle.bits.proofs.Numbers.{digit-at, number-none, number-lt, number-ext, number-whole, digit-number, low-digit}
 use Rattle.bits.proofs.Tests.{left, right, every, every-at}
-use Rattle.frame.specs.Modes.{Field, parity, command, mark, fixed, Row, crc12Row, fecRow, row}
+use Rattle.frame.specs.declared.modes.Sync.{Sync}
+use Rattle.frame.specs.declared.modes.Sync.the-variants.{Crc12, Fec}
+use Rattle.frame.specs.Modes.{Field, parity, command, mark, fixed, layout, code, commandWidth}
 use Rattle.frame.specs.SyncWord.{held, syncWord, key, position, readParity, readCommand, flaggedCommand}
 
 -- ---- the test
 
-abbrev pub fieldAt : Row → ℕ → Field
-fieldAt R t = getD (R .layout) t (fixed 0)
+abbrev pub fieldAt : Sync → ℕ → Field
+fieldAt S t = getD (layout S) t (fixed 0)
 
-abbrev pub place : Row → Field → ℕ
-place R x = position (R .layout) x
+abbrev pub place : Sync → Field → ℕ
+place S x = position (layout S) x
 
 -- a parity or command bit is one that the row has
-abbrev pub owned : Row → Field → Bool
-owned R (parity k) = ltb k (R .code .width)
-owned R (command k) = ltb k (R .commandWidth)
-owned R mark = true
-owned R (fixed b) = true
+abbrev pub owned : Sync → Field → Bool
+owned S (parity k) = ltb k (code S .width)
+owned S (command k) = ltb k (commandWidth S)
+owned S mark = true
+owned S (fixed b) = true
 
 -- a field other than a fixed bit does not stand before t
-abbrev pub firstAt : Row → ℕ → Field → Bool
-firstAt R t (parity k) = eqb (place R (parity k)) t
-firstAt R t (command k) = eqb (place R (command k)) t
-firstAt R t mark = eqb (place R mark) t
-firstAt R t (fixed b) = true
+abbrev pub firstAt : Sync → ℕ → Field → Bool
+firstAt S t (parity k) = eqb (place S (parity k)) t
+firstAt S t (command k) = eqb (place S (command k)) t
+firstAt S t mark = eqb (place S mark) t
+firstAt S t (fixed b) = true
 
 -- 32 fields, each of the row's own and at one position; each bit of the parity and of the command stands, and the parity's highest first
-pub record Stands (R : Row) : Type 0 where
-  pub count : length (R .layout) ≡ 32
-  pub own : (t : ℕ) → t < 32 → T (owned R (fieldAt R t))
-  pub once : (t : ℕ) → t < 32 → T (firstAt R t (fieldAt R t))
-  pub parities : (k : ℕ) → k < R .code .width → place R (parity k) < 32
-  pub commands : (k : ℕ) → k < R .commandWidth → place R (command k) < 32
-  pub falling : (k : ℕ) → k < R .code .width - 1 → place R (parity (suc k)) < place R (parity k)
+pub record Stands (S : Sync) : Type 0 where
+  pub count : length (layout S) ≡ 32
+  pub own : (t : ℕ) → t < 32 → T (owned S (fieldAt S t))
+  pub once : (t : ℕ) → t < 32 → T (firstAt S t (fieldAt S t))
+  pub parities : (k : ℕ) → k < code S .width → place S (parity k) < 32
+  pub commands : (k : ℕ) → k < commandWidth S → place S (command k) < 32
+  pub falling : (k : ℕ) → k < code S .width - 1 → place S (parity (suc k)) < place S (parity k)
 
-abbrev pub standsParities : Row → Bool
-standsParities R = every (λ k. ltb (place R (parity k)) 32) (R .code .width)
+abbrev pub standsParities : Sync → Bool
+standsParities S = every (λ k. ltb (place S (parity k)) 32) (code S .width)
 
-abbrev pub standsCommands : Row → Bool
-standsCommands R = every (λ k. ltb (place R (command k)) 32) (R .commandWidth)
+abbrev pub standsCommands : Sync → Bool
+standsCommands S = every (λ k. ltb (place S (command k)) 32) (commandWidth S)
 
-abbrev pub standsFalling : Row → Bool
-standsFalling R = every (λ k. ltb (place R (parity (suc k))) (place R (parity k))) (R .code .width - 1)
+abbrev pub standsFalling : Sync → Bool
+standsFalling S = every (λ k. ltb (place S (parity (suc k))) (place S (parity k))) (code S .width - 1)
 
-abbrev pub standsFields : Row → Bool
-standsFields R = every (λ t. owned R (fieldAt R t) && firstAt R t (fieldAt R t)) 32
+abbrev pub standsFields : Sync → Bool
+standsFields S = every (λ t. owned S (fieldAt S t) && firstAt S t (fieldAt S t)) 32
 
-abbrev pub stands : Row → Bool
-stands R = eqb (length (R .layout)) 32 && (standsFields R && (standsParities R && (standsCommands R && standsFalling R)))
+abbrev pub stands : Sync → Bool
+stands S = eqb (length (layout S)) 32 && (standsFields S && (standsParities S && (standsCommands S && standsFalling S)))
 
-pub passed : (R : Row) → T (stands R) → Stands R
-passed R t =
-    let fields = right (eqb (length (R .layout)) 32) _ t in
-    let parities = right (standsFields R) _ fields in
-    let commands = right (standsParities R) _ parities in
-    let field = every-at (λ t. owned R (fieldAt R t) && firstAt R t (fieldAt R t)) 32 (left (standsFields R) _ fields) in
+pub passed : (S : Sync) → T (stands S) → Stands S
+passed S t =
+    let fields = right (eqb (length (layout S)) 32) _ t in
+    let parities = right (standsFields S) _ fields in
+    let commands = right (standsParities S) _ parities in
+    let field = every-at (λ t. owned S (fieldAt S t) && firstAt S t (fieldAt S t)) 32 (left (standsFields S) _ fields) in
     record {
-      count = eqb→eq (length (R .layout)) 32 (left (eqb (length (R .layout)) 32) _ t);
-      own = λ t h. left (owned R (fieldAt R t)) (firstAt R t (fieldAt R t)) (field t h);
-      once = λ t h. right (owned R (fieldAt R t)) (firstAt R t (fieldAt R t)) (field t h);
-      parities = λ k h. ltb→lt (place R (parity k)) 32 (every-at (λ k. ltb (place R (parity k)) 32) (R .code .width) (left (standsParities R) _ parities) k h);
-      commands = λ k h. ltb→lt (place R (command k)) 32 (every-at (λ k. ltb (place R (command k)) 32) (R .commandWidth) (left (standsCommands R) _ commands) k h);
-      falling = λ k h. ltb→lt (place R (parity (suc k))) (place R (parity k)) (every-at (λ k. ltb (place R (parity (suc k))) (place R (parity k))) (R .code .width - 1) (right (standsCommands R) _ commands) k h);
+      count = eqb→eq (length (layout S)) 32 (left (eqb (length (layout S)) 32) _ t);
+      own = λ t h. left (owned S (fieldAt S t)) (firstAt S t (fieldAt S t)) (field t h);
+      once = λ t h. right (owned S (fieldAt S t)) (firstAt S t (fieldAt S t)) (field t h);
+      parities = λ k h. ltb→lt (place S (parity k)) 32 (every-at (λ k. ltb (place S (parity k)) 32) (code S .width) (left (standsParities S) _ parities) k h);
+      commands = λ k h. ltb→lt (place S (command k)) 32 (every-at (λ k. ltb (place S (command k)) 32) (commandWidth S) (left (standsCommands S) _ commands) k h);
+      falling = λ k h. ltb→lt (place S (parity (suc k))) (place S (parity k)) (every-at (λ k. ltb (place S (parity (suc k))) (place S (parity k))) (code S .width - 1) (right (standsCommands S) _ commands) k h);
     }
 
-pub crc12-stands : Stands crc12Row
+-- every sync word passes
+pub all-stand : (S : Sync) → Stands S
 unfolding every position key
-crc12-stands = passed crc12Row tt
-
-pub fec-stands : Stands fecRow
-unfolding every position key
-fec-stands = passed fecRow tt
-
-pub fec-row : (mode : ℕ) → mode ≡ 1 → row mode ≡ fecRow
-fec-row mode e = ap row e
-
-pub crc12-row : (mode : ℕ) → (mode ≡ 1 → ⊥) → row mode ≡ crc12Row
-crc12-row mode n = ap (λ (b : Bool). pick b fecRow crc12Row) (ne-eqb mode 1 n)
-
-pub row-stands : (mode : ℕ) → Stands (row mode)
-row-stands mode = either (eqb mode 1)
-  where
-    either : (b : Bool) → Stands (pick b fecRow crc12Row)
-    either true = fec-stands
-    either false = crc12-stands
+all-stand Crc12 = passed Crc12 tt
+all-stand Fec = passed Fec tt
 
 -- ---- where a field stands
 
@@ -149,172 +136,172 @@ held-lt p c e mark = mod-lt e (zero-lt-suc 1)
 held-lt p c e (fixed b) = mod-lt b (zero-lt-suc 1)
 
 -- bit t of a sync word is what the field there holds
-pub held-digit : (R : Row) (p c e t : ℕ) → t < 32 → digit 32 (syncWord R p c e) t ≡ held p c e (fieldAt R t)
+pub held-digit : (S : Sync) (p c e t : ℕ) → t < 32 → digit 32 (syncWord S p c e) t ≡ held p c e (fieldAt S t)
 unfolding syncWord
-held-digit R p c e t h =
-    digit-number (λ t. held p c e (fieldAt R t)) (λ t. held-lt p c e (fieldAt R t)) 0 32 t h
-    ∙ ap (λ (x : ℕ). held p c e (fieldAt R x)) (zero-add t)
+held-digit S p c e t h =
+    digit-number (λ t. held p c e (fieldAt S t)) (λ t. held-lt p c e (fieldAt S t)) 0 32 t h
+    ∙ ap (λ (x : ℕ). held p c e (fieldAt S x)) (zero-add t)
 
-pub syncWord-lt : (R : Row) (p c e : ℕ) → syncWord R p c e < 2 ^ 32
+pub syncWord-lt : (S : Sync) (p c e : ℕ) → syncWord S p c e < 2 ^ 32
 unfolding syncWord
-syncWord-lt R p c e = number-lt (λ t. held p c e (fieldAt R t)) (λ t. held-lt p c e (fieldAt R t)) 0 32
+syncWord-lt S p c e = number-lt (λ t. held p c e (fieldAt S t)) (λ t. held-lt p c e (fieldAt S t)) 0 32
 
-module _ (R : Row) (s : Stands R) where
+module _ (S : Sync) (s : Stands S) where
   -- only the bits that the row has count
-  held-low : (p c e : ℕ) (x : Field) → T (owned R x) → held p c e x ≡ held (p % 2 ^ R .code .width) (c % 2 ^ R .commandWidth) e x
+  held-low : (p c e : ℕ) (x : Field) → T (owned S x) → held p c e x ≡ held (p % 2 ^ code S .width) (c % 2 ^ commandWidth S) e x
   unfolding held
-  held-low p c e (parity k) t = sym (low-digit p (R .code .width) k (ltb→lt k (R .code .width) t))
-  held-low p c e (command k) t = sym (low-digit c (R .commandWidth) k (ltb→lt k (R .commandWidth) t))
+  held-low p c e (parity k) t = sym (low-digit p (code S .width) k (ltb→lt k (code S .width) t))
+  held-low p c e (command k) t = sym (low-digit c (commandWidth S) k (ltb→lt k (commandWidth S) t))
   held-low p c e mark t = refl
   held-low p c e (fixed b) t = refl
 
-  pub syncWord-low : (p c e : ℕ) → syncWord R p c e ≡ syncWord R (p % 2 ^ R .code .width) (c % 2 ^ R .commandWidth) e
+  pub syncWord-low : (p c e : ℕ) → syncWord S p c e ≡ syncWord S (p % 2 ^ code S .width) (c % 2 ^ commandWidth S) e
   unfolding syncWord
   syncWord-low p c e =
-      number-ext (λ t. held p c e (fieldAt R t)) (λ t. held (p % 2 ^ R .code .width) (c % 2 ^ R .commandWidth) e (fieldAt R t)) 0 0 32
-      (λ t h. held-low p c e (fieldAt R (0 + t)) (s .own (0 + t) (omega arith)))
+      number-ext (λ t. held p c e (fieldAt S t)) (λ t. held (p % 2 ^ code S .width) (c % 2 ^ commandWidth S) e (fieldAt S t)) 0 0 32
+      (λ t h. held-low p c e (fieldAt S (0 + t)) (s .own (0 + t) (omega arith)))
 
   -- a bit of the parity or of the command stands at one position
-  pub one-parity-place : (k t : ℕ) → t < 32 → fieldAt R t ≡ parity k → place R (parity k) ≡ t
-  one-parity-place k t h e = eqb→eq (place R (parity k)) t (subst (λ (x : Field). T (firstAt R t x)) e (s .once t h))
+  pub one-parity-place : (k t : ℕ) → t < 32 → fieldAt S t ≡ parity k → place S (parity k) ≡ t
+  one-parity-place k t h e = eqb→eq (place S (parity k)) t (subst (λ (x : Field). T (firstAt S t x)) e (s .once t h))
 
-  pub one-command-place : (k t : ℕ) → t < 32 → fieldAt R t ≡ command k → place R (command k) ≡ t
-  one-command-place k t h e = eqb→eq (place R (command k)) t (subst (λ (x : Field). T (firstAt R t x)) e (s .once t h))
+  pub one-command-place : (k t : ℕ) → t < 32 → fieldAt S t ≡ command k → place S (command k) ≡ t
+  one-command-place k t h e = eqb→eq (place S (command k)) t (subst (λ (x : Field). T (firstAt S t x)) e (s .once t h))
 
   -- what is written is read back
 
-  digit-there : (p c e : ℕ) (x : Field) → place R x < 32 → digit 32 (syncWord R p c e) (place R x) ≡ held p c e x
-  digit-there p c e x h = held-digit R p c e (place R x) h ∙ ap (held p c e) (there (R .layout) x (fixed 0) (rw (s .count) h))
+  digit-there : (p c e : ℕ) (x : Field) → place S x < 32 → digit 32 (syncWord S p c e) (place S x) ≡ held p c e x
+  digit-there p c e x h = held-digit S p c e (place S x) h ∙ ap (held p c e) (there (layout S) x (fixed 0) (rw (s .count) h))
 
-  pub reads-parity : (p c e : ℕ) → readParity R (digit 32 (syncWord R p c e)) ≡ p % 2 ^ R .code .width
+  pub reads-parity : (p c e : ℕ) → readParity S (digit 32 (syncWord S p c e)) ≡ p % 2 ^ code S .width
   unfolding readParity held
   reads-parity p c e =
-      let w = R .code .width in
-      number-ext (λ j. digit 32 (syncWord R p c e) (place R (parity (w - 1 - j)))) (λ j. p / 2 ^ (w - 1 - j) % 2) 0 0 w
+      let w = code S .width in
+      number-ext (λ j. digit 32 (syncWord S p c e) (place S (parity (w - 1 - j)))) (λ j. p / 2 ^ (w - 1 - j) % 2) 0 0 w
       (λ j h. digit-there p c e (parity (w - 1 - (0 + j))) (s .parities (w - 1 - (0 + j)) (omega arith)))
       ∙ number-whole w p
 
-  pub reads-command : (p c e : ℕ) → readCommand R (digit 32 (syncWord R p c e)) ≡ c % 2 ^ R .commandWidth
+  pub reads-command : (p c e : ℕ) → readCommand S (digit 32 (syncWord S p c e)) ≡ c % 2 ^ commandWidth S
   unfolding readCommand held
   reads-command p c e =
-      let w = R .commandWidth in
-      number-ext (λ j. digit 32 (syncWord R p c e) (place R (command (w - 1 - j)))) (λ j. c / 2 ^ (w - 1 - j) % 2) 0 0 w
+      let w = commandWidth S in
+      number-ext (λ j. digit 32 (syncWord S p c e) (place S (command (w - 1 - j)))) (λ j. c / 2 ^ (w - 1 - j) % 2) 0 0 w
       (λ j h. digit-there p c e (command (w - 1 - (0 + j))) (s .commands (w - 1 - (0 + j)) (omega arith)))
       ∙ number-whole w c
 
 -- ---- what is read
 
-module _ (R : Row) (a b : ℕ → ℕ) where
+module _ (S : Sync) (a b : ℕ → ℕ) where
   -- a field is read from its own positions only: a wrong end mark or wrong fixed bits change nothing
-  pub only-parity : ((k : ℕ) → k < R .code .width → a (place R (parity k)) ≡ b (place R (parity k))) → readParity R a ≡ readParity R b
+  pub only-parity : ((k : ℕ) → k < code S .width → a (place S (parity k)) ≡ b (place S (parity k))) → readParity S a ≡ readParity S b
   unfolding readParity
   only-parity e =
-      let w = R .code .width in
-      number-ext (λ j. a (place R (parity (w - 1 - j)))) (λ j. b (place R (parity (w - 1 - j)))) 0 0 w (λ j h. e (w - 1 - (0 + j)) (omega arith))
+      let w = code S .width in
+      number-ext (λ j. a (place S (parity (w - 1 - j)))) (λ j. b (place S (parity (w - 1 - j)))) 0 0 w (λ j h. e (w - 1 - (0 + j)) (omega arith))
 
-  pub only-command : ((k : ℕ) → k < R .commandWidth → a (place R (command k)) ≡ b (place R (command k))) → readCommand R a ≡ readCommand R b
+  pub only-command : ((k : ℕ) → k < commandWidth S → a (place S (command k)) ≡ b (place S (command k))) → readCommand S a ≡ readCommand S b
   unfolding readCommand
   only-command e =
-      let w = R .commandWidth in
-      number-ext (λ j. a (place R (command (w - 1 - j)))) (λ j. b (place R (command (w - 1 - j)))) 0 0 w (λ j h. e (w - 1 - (0 + j)) (omega arith))
+      let w = commandWidth S in
+      number-ext (λ j. a (place S (command (w - 1 - j)))) (λ j. b (place S (command (w - 1 - j)))) 0 0 w (λ j h. e (w - 1 - (0 + j)) (omega arith))
 
-pub only-flagged : (R : Row) (a b invalid other : ℕ → ℕ) → ((k : ℕ) → k < R .commandWidth → a (place R (command k)) ≡ b (place R (command k)))
-    → ((k : ℕ) → k < R .commandWidth → invalid (place R (command k)) ≡ other (place R (command k))) → flaggedCommand R a invalid ≡ flaggedCommand R b other
+pub only-flagged : (S : Sync) (a b invalid other : ℕ → ℕ) → ((k : ℕ) → k < commandWidth S → a (place S (command k)) ≡ b (place S (command k)))
+    → ((k : ℕ) → k < commandWidth S → invalid (place S (command k)) ≡ other (place S (command k))) → flaggedCommand S a invalid ≡ flaggedCommand S b other
 unfolding flaggedCommand
-only-flagged R a b invalid other e f = ap₂ (λ (x y : ℕ). x + pick (leb 1 y) (2 ^ R .commandWidth) 0) (only-command R a b e) (only-command R invalid other f)
+only-flagged S a b invalid other e f = ap₂ (λ (x y : ℕ). x + pick (leb 1 y) (2 ^ commandWidth S) 0) (only-command S a b e) (only-command S invalid other f)
 
 -- 32 sync bits are read alike as a stream and as the number they write
-module _ (R : Row) (s : Stands R) where
+module _ (S : Sync) (s : Stands S) where
   module _ (bits : ℕ → ℕ) (d : (t : ℕ) → bits t < 2) where
-    bit-there : (x : Field) → place R x < 32 → digit 32 (number bits 0 32) (place R x) ≡ bits (place R x)
-    bit-there x h = digit-number bits d 0 32 (place R x) h ∙ ap bits (zero-add (place R x))
+    bit-there : (x : Field) → place S x < 32 → digit 32 (number bits 0 32) (place S x) ≡ bits (place S x)
+    bit-there x h = digit-number bits d 0 32 (place S x) h ∙ ap bits (zero-add (place S x))
 
-    pub number-parity : readParity R (digit 32 (number bits 0 32)) ≡ readParity R bits
-    number-parity = only-parity R (digit 32 (number bits 0 32)) bits (λ k h. bit-there (parity k) (s .parities k h))
+    pub number-parity : readParity S (digit 32 (number bits 0 32)) ≡ readParity S bits
+    number-parity = only-parity S (digit 32 (number bits 0 32)) bits (λ k h. bit-there (parity k) (s .parities k h))
 
-    number-command : readCommand R (digit 32 (number bits 0 32)) ≡ readCommand R bits
-    number-command = only-command R (digit 32 (number bits 0 32)) bits (λ k h. bit-there (command k) (s .commands k h))
+    number-command : readCommand S (digit 32 (number bits 0 32)) ≡ readCommand S bits
+    number-command = only-command S (digit 32 (number bits 0 32)) bits (λ k h. bit-there (command k) (s .commands k h))
 
   pub number-flagged : (bits invalid : ℕ → ℕ) → ((t : ℕ) → bits t < 2) → ((t : ℕ) → invalid t < 2)
-      → flaggedCommand R (digit 32 (number bits 0 32)) (digit 32 (number invalid 0 32)) ≡ flaggedCommand R bits invalid
+      → flaggedCommand S (digit 32 (number bits 0 32)) (digit 32 (number invalid 0 32)) ≡ flaggedCommand S bits invalid
   unfolding flaggedCommand
   number-flagged bits invalid d e =
-      ap₂ (λ (x y : ℕ). x + pick (leb 1 y) (2 ^ R .commandWidth) 0) (number-command bits d) (number-command invalid e)
+      ap₂ (λ (x y : ℕ). x + pick (leb 1 y) (2 ^ commandWidth S) 0) (number-command bits d) (number-command invalid e)
 
-module _ (R : Row) (bits : ℕ → ℕ) (d : (t : ℕ) → bits t < 2) where
-  pub readParity-lt : readParity R bits < 2 ^ R .code .width
+module _ (S : Sync) (bits : ℕ → ℕ) (d : (t : ℕ) → bits t < 2) where
+  pub readParity-lt : readParity S bits < 2 ^ code S .width
   unfolding readParity
-  readParity-lt = number-lt (λ j. bits (place R (parity (R .code .width - 1 - j)))) (λ j. d (place R (parity (R .code .width - 1 - j)))) 0 (R .code .width)
+  readParity-lt = number-lt (λ j. bits (place S (parity (code S .width - 1 - j)))) (λ j. d (place S (parity (code S .width - 1 - j)))) 0 (code S .width)
 
-  pub readCommand-lt : readCommand R bits < 2 ^ R .commandWidth
+  pub readCommand-lt : readCommand S bits < 2 ^ commandWidth S
   unfolding readCommand
-  readCommand-lt = number-lt (λ j. bits (place R (command (R .commandWidth - 1 - j)))) (λ j. d (place R (command (R .commandWidth - 1 - j)))) 0 (R .commandWidth)
+  readCommand-lt = number-lt (λ j. bits (place S (command (commandWidth S - 1 - j)))) (λ j. d (place S (command (commandWidth S - 1 - j)))) 0 (commandWidth S)
 
-  pub flaggedCommand-lt : (invalid : ℕ → ℕ) → flaggedCommand R bits invalid < 2 ^ (R .commandWidth + 1)
+  pub flaggedCommand-lt : (invalid : ℕ → ℕ) → flaggedCommand S bits invalid < 2 ^ (commandWidth S + 1)
   unfolding flaggedCommand
   flaggedCommand-lt invalid =
-      subst (λ (x : ℕ). readCommand R bits + pick (leb 1 (readCommand R invalid)) (2 ^ R .commandWidth) 0 < x)
-      (sym (ap (λ (x : ℕ). 2 ^ x) (add-one (R .commandWidth)) ∙ pow-suc 2 (R .commandWidth))) (by (leb 1 (readCommand R invalid)))
+      subst (λ (x : ℕ). readCommand S bits + pick (leb 1 (readCommand S invalid)) (2 ^ commandWidth S) 0 < x)
+      (sym (ap (λ (x : ℕ). 2 ^ x) (add-one (commandWidth S)) ∙ pow-suc 2 (commandWidth S))) (by (leb 1 (readCommand S invalid)))
     where
-      by : (b : Bool) → readCommand R bits + pick b (2 ^ R .commandWidth) 0 < 2 ^ R .commandWidth * 2
+      by : (b : Bool) → readCommand S bits + pick b (2 ^ commandWidth S) 0 < 2 ^ commandWidth S * 2
       by true = omega (arith, readCommand-lt)
       by false = omega (arith, readCommand-lt)
 
 -- the command is flagged exactly where a header of its own was invalid
-module _ (R : Row) (bits invalid : ℕ → ℕ) where
-  pub flagged : 1 ≤ readCommand R invalid → readCommand R bits + 2 ^ R .commandWidth ≡ flaggedCommand R bits invalid
+module _ (S : Sync) (bits invalid : ℕ → ℕ) where
+  pub flagged : 1 ≤ readCommand S invalid → readCommand S bits + 2 ^ commandWidth S ≡ flaggedCommand S bits invalid
   unfolding flaggedCommand
-  flagged h = ap (λ (b : Bool). readCommand R bits + pick b (2 ^ R .commandWidth) 0) (sym (le-leb 1 (readCommand R invalid) h))
+  flagged h = ap (λ (b : Bool). readCommand S bits + pick b (2 ^ commandWidth S) 0) (sym (le-leb 1 (readCommand S invalid) h))
 
-  pub unflagged : readCommand R invalid < 1 → readCommand R bits ≡ flaggedCommand R bits invalid
+  pub unflagged : readCommand S invalid < 1 → readCommand S bits ≡ flaggedCommand S bits invalid
   unfolding flaggedCommand
   unflagged h =
-      sym (ap (λ (b : Bool). readCommand R bits + pick b (2 ^ R .commandWidth) 0) (lt-leb 1 (readCommand R invalid) h) ∙ add-zero (readCommand R bits))
+      sym (ap (λ (b : Bool). readCommand S bits + pick b (2 ^ commandWidth S) 0) (lt-leb 1 (readCommand S invalid) h) ∙ add-zero (readCommand S bits))
 
 -- a mode without commands reads 0
-pub no-command : (R : Row) → R .commandWidth ≡ 0 → (bits : ℕ → ℕ) → readCommand R bits ≡ 0
+pub no-command : (S : Sync) → commandWidth S ≡ 0 → (bits : ℕ → ℕ) → readCommand S bits ≡ 0
 unfolding readCommand
-no-command R none bits =
-    let f : ℕ → ℕ = λ j. bits (place R (command (R .commandWidth - 1 - j))) in
+no-command S none bits =
+    let f : ℕ → ℕ = λ j. bits (place S (command (commandWidth S - 1 - j))) in
     ap (number f 0) none ∙ sym (number-none f 0)
 
-pub no-flagged-command : (R : Row) → R .commandWidth ≡ 0 → (bits invalid : ℕ → ℕ) → flaggedCommand R bits invalid ≡ 0
+pub no-flagged-command : (S : Sync) → commandWidth S ≡ 0 → (bits invalid : ℕ → ℕ) → flaggedCommand S bits invalid ≡ 0
 unfolding flaggedCommand
-no-flagged-command R none bits invalid =
-    ap₂ (λ (x y : ℕ). x + pick (leb 1 y) (2 ^ R .commandWidth) 0) (no-command R none bits) (no-command R none invalid)
+no-flagged-command S none bits invalid =
+    ap₂ (λ (x y : ℕ). x + pick (leb 1 y) (2 ^ commandWidth S) 0) (no-command S none bits) (no-command S none invalid)
 
 -- ---- the order of the parity's bits
 
 -- where the parity's bit of rank r stands, the highest bit being the first
-abbrev pub parityPlace : Row → ℕ → ℕ
-parityPlace R r = place R (parity (R .code .width - 1 - r))
+abbrev pub parityPlace : Sync → ℕ → ℕ
+parityPlace S r = place S (parity (code S .width - 1 - r))
 
 -- a bit of the parity read is what is read there
-pub parity-bit : (R : Row) (bits : ℕ → ℕ) → ((t : ℕ) → bits t < 2) → (r : ℕ) → r < R .code .width
-    → readParity R bits / 2 ^ (R .code .width - 1 - r) % 2 ≡ bits (parityPlace R r)
+pub parity-bit : (S : Sync) (bits : ℕ → ℕ) → ((t : ℕ) → bits t < 2) → (r : ℕ) → r < code S .width
+    → readParity S bits / 2 ^ (code S .width - 1 - r) % 2 ≡ bits (parityPlace S r)
 unfolding readParity
-parity-bit R bits d r h =
-    sym (digit-at (R .code .width) (readParity R bits) r)
-    ∙ digit-number (λ j. bits (parityPlace R j)) (λ j. d (parityPlace R j)) 0 (R .code .width) r h ∙ ap (λ (x : ℕ). bits (parityPlace R x)) (zero-add r)
+parity-bit S bits d r h =
+    sym (digit-at (code S .width) (readParity S bits) r)
+    ∙ digit-number (λ j. bits (parityPlace S j)) (λ j. d (parityPlace S j)) 0 (code S .width) r h ∙ ap (λ (x : ℕ). bits (parityPlace S x)) (zero-add r)
 
-module _ (R : Row) (s : Stands R) where
-  pub parityPlace-lt : (r : ℕ) → r < R .code .width → parityPlace R r < 32
-  parityPlace-lt r h = s .parities (R .code .width - 1 - r) (omega arith)
+module _ (S : Sync) (s : Stands S) where
+  pub parityPlace-lt : (r : ℕ) → r < code S .width → parityPlace S r < 32
+  parityPlace-lt r h = s .parities (code S .width - 1 - r) (omega arith)
 
-  next-place : (r : ℕ) → suc r < R .code .width → parityPlace R r < parityPlace R (suc r)
+  next-place : (r : ℕ) → suc r < code S .width → parityPlace S r < parityPlace S (suc r)
   next-place r h =
-      let k = R .code .width - 1 - suc r in
-      subst (λ (x : ℕ). place R (parity x) < place R (parity k)) {x = suc k} {y = R .code .width - 1 - r} (omega arith) (s .falling k (omega arith))
+      let k = code S .width - 1 - suc r in
+      subst (λ (x : ℕ). place S (parity x) < place S (parity k)) {x = suc k} {y = code S .width - 1 - r} (omega arith) (s .falling k (omega arith))
 
   -- d ranks on is d positions on at least
-  pub places-apart : (r d : ℕ) → r + d < R .code .width → parityPlace R r + d ≤ parityPlace R (r + d)
-  places-apart r zero h = rw (add-zero (parityPlace R r), add-zero r) (le-refl (parityPlace R r))
+  pub places-apart : (r d : ℕ) → r + d < code S .width → parityPlace S r + d ≤ parityPlace S (r + d)
+  places-apart r zero h = rw (add-zero (parityPlace S r), add-zero r) (le-refl (parityPlace S r))
   places-apart r (suc d) h =
       let e : r + suc d ≡ suc (r + d) = add-suc r d in
-      subst (λ (x : ℕ). parityPlace R r + suc d ≤ parityPlace R x) (sym e) (omega (arith, places-apart r d (omega arith), next-place (r + d) (omega arith)))
+      subst (λ (x : ℕ). parityPlace S r + suc d ≤ parityPlace S x) (sym e) (omega (arith, places-apart r d (omega arith), next-place (r + d) (omega arith)))
 
-  pub places-between : (a b : ℕ) → a < b → b < R .code .width → parityPlace R a + (b - a) ≤ parityPlace R b
-  places-between a b h l = subst (λ (x : ℕ). parityPlace R a + (b - a) ≤ parityPlace R x) {x = a + (b - a)} {y = b} (omega arith) (places-apart a (b - a) (omega arith))
+  pub places-between : (a b : ℕ) → a < b → b < code S .width → parityPlace S a + (b - a) ≤ parityPlace S b
+  places-between a b h l = subst (λ (x : ℕ). parityPlace S a + (b - a) ≤ parityPlace S x) {x = a + (b - a)} {y = b} (omega arith) (places-apart a (b - a) (omega arith))
 
-  pub rank-le-place : (r : ℕ) → r < R .code .width → r ≤ parityPlace R r
-  rank-le-place r h = subst (λ (x : ℕ). r ≤ parityPlace R x) {x = 0 + r} {y = r} (omega arith) (omega (arith, places-apart 0 r (omega arith)))
+  pub rank-le-place : (r : ℕ) → r < code S .width → r ≤ parityPlace S r
+  rank-le-place r h = subst (λ (x : ℕ). r ≤ parityPlace S x) {x = 0 + r} {y = r} (omega arith) (omega (arith, places-apart 0 r (omega arith)))

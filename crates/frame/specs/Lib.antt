@@ -3,4 +3,3 @@ pub mod Modes
 pub mod Headers
 pub mod Lane
 pub mod SyncWord
-pub mod Dozen

@@ -1,11 +1,18 @@
 -- The modes, one row each: document 01, "From octets to lane bits"; clauses 7.1, 7.3.4 and 7.3.6. Assumes nothing.
-use mathlib.Core.Bool.{Bool, true, false}
+use mathlib.Core.Bool.{Bool, true, false, _&&_}
 use mathlib.Core.List.{List, [], _∷_, _++_}
-use Prim.Native.Nat.{ℕ, zero, suc, _+_, _*_}
-use lib.Dec.{eqb}
-use lib.ListN.{replicate}
+use Prim.Native.Nat.{ℕ, zero, suc, _+_, _*_, _^_}
+use lib.Dec.{ltb, leb}
+use lib.ListN.{length, getD, replicate}
 use Rattle.bits.specs.Choice.{pick}
 use Rattle.parity.specs.Codeword.{Code, crc12, fec}
+use Rattle.frame.specs.declared.modes.Sync.{Sync}
+use Rattle.frame.specs.declared.modes.Sync.the-variants.{Crc12, Fec}
+use Rattle.frame.specs.declared.modes.Row.{Row}
+use Rattle.frame.specs.declared.modes.Numbers.{Numbers}
+use Rattle.frame.specs.Lane.{blockWidth, laneOctets}
+
+-- ---- sync words
 
 -- what a sync word carries at a position
 pub data Field : Type 0 where
@@ -13,14 +20,6 @@ pub data Field : Type 0 where
   command : ℕ → Field  -- bit k of this multiblock's command
   mark : Field  -- 1 in the last multiblock of an extended multiblock
   fixed : ℕ → Field  -- a bit that is always this
-
-pub record Row : Type 0 where
-  pub code : Code
-  pub repairs : Bool  -- whether a burst is flipped back, or only noticed
-  pub commandWidth : ℕ
-  pub gap : ℕ  -- bits between the data octets of a block
-  pub layout : List Field  -- the sync word, by block
-  pub most : ℕ  -- multiblocks that one call takes at most
 
 -- bits k + n - 1 down to k of a field
 abbrev pub down : (ℕ → Field) → ℕ → ℕ → List Field
@@ -31,22 +30,69 @@ down f k (suc n) = f (k + n) ∷ down f k n
 abbrev pub ending : List Field
 ending = replicate 4 (fixed 0) ++ fixed 1 ∷ []
 
--- Table 41
-abbrev pub crc12Layout : List Field
-crc12Layout =
+-- the 32 fields by block: Table 41, and Table 45
+abbrev pub layout : Sync → List Field
+layout Crc12 =
     down parity 9 3 ++ fixed 1 ∷ down parity 6 3 ++ fixed 1 ∷ down parity 3 3 ++ fixed 1 ∷ down parity 0 3 ++ fixed 1
     ∷ down command 4 3 ++ fixed 1 ∷ command 3 ∷ fixed 1 ∷ mark ∷ fixed 1 ∷ down command 0 3 ++ ending
+layout Fec = down parity 4 22 ++ mark ∷ down parity 0 4 ++ ending
 
--- Table 45
-abbrev pub fecLayout : List Field
-fecLayout = down parity 4 22 ++ mark ∷ down parity 0 4 ++ ending
+-- the code of the parity
+abbrev pub code : Sync → Code
+code Crc12 = crc12
+code Fec = fec
 
-abbrev pub crc12Row : Row
-crc12Row = record { code = crc12; repairs = false; commandWidth = 7; gap = 0; layout = crc12Layout; most = 240 }
+-- bits of a command
+abbrev pub commandWidth : Sync → ℕ
+commandWidth Crc12 = 7
+commandWidth Fec = 0
 
-abbrev pub fecRow : Row
-fecRow = record { code = fec; repairs = true; commandWidth = 0; gap = 0; layout = fecLayout; most = 240 }
+-- whether a burst is flipped back, or only noticed
+abbrev pub repairs : Sync → Bool
+repairs Crc12 = false
+repairs Fec = true
 
--- mode 1 is FEC and mode 0 CRC-12. Any other number has the row of mode 0 here; every entry refuses it before a row is read.
-abbrev pub row : ℕ → Row
-row mode = pick (eqb mode 1) fecRow crc12Row
+-- ---- modes
+
+-- a mode's number is its place here. By row: the sync word, the bits between the data octets of a block, the most multiblocks of one call
+abbrev pub rows : List Row
+rows =
+    record { sync = Crc12; gap = 0; most = 240 }
+    ∷ record { sync = Fec; gap = 0; most = 240 }
+    ∷ []
+
+abbrev pub known : ℕ → Bool
+known mode = ltb mode (length rows)
+
+-- of a number that no mode has: no call takes a multiblock by it, and every entry refuses the number before it goes by its row
+abbrev pub noRow : Row
+noRow = record { sync = Crc12; gap = 0; most = 0 }
+
+unfoldable pub row : ℕ → Row
+row mode = getD rows mode noRow
+
+-- what follows from a row
+abbrev pub numbersOf : Row → Numbers
+numbersOf R = record {
+  parities = 2 ^ code (R .sync) .width;
+  commands = 2 ^ commandWidth (R .sync);
+  octets = laneOctets (R .gap);
+  width = blockWidth (R .gap);
+  repairs = repairs (R .sync);
+}
+
+-- the greatest of all rows' numbers: the most multiblocks of a call, and the longest lane of a call in octets
+abbrev pub greatest : (Row → ℕ) → List Row → ℕ
+greatest f [] = 0
+greatest f (R ∷ rest) = pick (leb (greatest f rest) (f R)) (f R) (greatest f rest)
+
+unfoldable pub mostOfAll : ℕ
+mostOfAll = greatest (λ (R : Row). R .most) rows
+
+unfoldable pub longestLane : ℕ
+longestLane = greatest (λ (R : Row). laneOctets (R .gap) * R .most) rows
+
+-- ---- E, the multiblocks of an extended multiblock
+
+unfoldable pub extentFits : ℕ → Bool
+extentFits E = leb 1 E && leb E 256

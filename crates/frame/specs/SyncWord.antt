@@ -8,7 +8,8 @@ use lib.ListN.{getD}
 use Rattle.bits.specs.Choice.{pick}
 use Rattle.bits.specs.Order.{number}
 use Rattle.parity.specs.Codeword.{Code}
-use Rattle.frame.specs.Modes.{Field, parity, command, mark, fixed, Row}
+use Rattle.frame.specs.declared.modes.Sync.{Sync}
+use Rattle.frame.specs.Modes.{Field, parity, command, mark, fixed, layout, code, commandWidth}
 
 -- ---- written
 
@@ -19,8 +20,8 @@ held p c e (command k) = c / 2 ^ k % 2
 held p c e mark = e % 2
 held p c e (fixed b) = b % 2
 
-unfoldable pub syncWord : Row → ℕ → ℕ → ℕ → ℕ
-syncWord R p c e = number (λ t. held p c e (getD (R .layout) t (fixed 0))) 0 32
+unfoldable pub syncWord : Sync → ℕ → ℕ → ℕ → ℕ
+syncWord S p c e = number (λ t. held p c e (getD (layout S) t (fixed 0))) 0 32
 
 -- ---- read
 
@@ -37,12 +38,12 @@ position [] x = 0
 position (y ∷ l) x = pick (eqb (key x) (key y)) 0 (suc (position l x))
 
 -- the parity and the command that 32 sync bits carry
-unfoldable pub readParity : Row → (ℕ → ℕ) → ℕ
-readParity R bits = number (λ j. bits (position (R .layout) (parity (R .code .width - 1 - j)))) 0 (R .code .width)
+unfoldable pub readParity : Sync → (ℕ → ℕ) → ℕ
+readParity S bits = number (λ j. bits (position (layout S) (parity (code S .width - 1 - j)))) 0 (code S .width)
 
-unfoldable pub readCommand : Row → (ℕ → ℕ) → ℕ
-readCommand R bits = number (λ j. bits (position (R .layout) (command (R .commandWidth - 1 - j)))) 0 (R .commandWidth)
+unfoldable pub readCommand : Sync → (ℕ → ℕ) → ℕ
+readCommand S bits = number (λ j. bits (position (layout S) (command (commandWidth S - 1 - j)))) 0 (commandWidth S)
 
 -- the same with a flag above it, where any of its headers was invalid
-unfoldable pub flaggedCommand : Row → (ℕ → ℕ) → (ℕ → ℕ) → ℕ
-flaggedCommand R bits invalid = readCommand R bits + pick (leb 1 (readCommand R invalid)) (2 ^ R .commandWidth) 0
+unfoldable pub flaggedCommand : Sync → (ℕ → ℕ) → (ℕ → ℕ) → ℕ
+flaggedCommand S bits invalid = readCommand S bits + pick (leb 1 (readCommand S invalid)) (2 ^ commandWidth S) 0

@@ -3,17 +3,14 @@
 ghost use mathlib.Core.Path.{_≡_};
 ghost use Rattle.bits.specs.Choice.{bitOf};
 ghost use Rattle.bits.specs.Order.{digit};
-ghost use Rattle.frame.specs.Modes.{row, crc12Row};
+ghost use Rattle.frame.specs.declared.modes.Sync.the-variants.{Crc12, Fec};
 ghost use Rattle.frame.specs.SyncWord.{syncWord, readParity, readCommand, flaggedCommand};
+use crate::modes::Sync;
 
-// The sync word that carries a parity, a command and an end mark.
-pub fn word(mode: u8, parity: u32, command: u32, mark: bool) -> u32
-    ensures { λ r. ⌜ r ≡ syncWord (row mode) parity command (bitOf mark) ⌝ }
+fn crc12_word(parity: u32, command: u32, mark: bool) -> u32
+    ensures { λ r. ⌜ r ≡ syncWord Crc12 parity command (bitOf mark) ⌝ }
 {
     let end = (mark as u32) << 9;
-    if mode == 1 {
-        return ((parity & 0x03ff_fff0) << 6) ^ ((parity & 0xf) << 5) ^ (end ^ 1);
-    }
     let code = ((parity & 0xe00) << 20)
         ^ ((parity & 0x1c0) << 19)
         ^ ((parity & 0x38) << 18)
@@ -22,33 +19,70 @@ pub fn word(mode: u8, parity: u32, command: u32, mark: bool) -> u32
     code ^ own ^ (end ^ 0x1111_1501)
 }
 
-// The parity that 32 sync bits carry.
-pub fn parity(mode: u8, bits: u32) -> u32
-    ensures { λ r. ⌜ r ≡ readParity (row mode) (digit 32 bits) ⌝ }
+// A command has no place in it.
+fn fec_word(parity: u32, command: u32, mark: bool) -> u32
+    ensures { λ r. ⌜ r ≡ syncWord Fec parity command (bitOf mark) ⌝ }
 {
-    if mode == 1 {
-        return ((bits >> 6) & 0x03ff_fff0) ^ ((bits >> 5) & 0xf);
+    let end = (mark as u32) << 9;
+    ((parity & 0x03ff_fff0) << 6) ^ ((parity & 0xf) << 5) ^ (end ^ 1)
+}
+
+// The sync word that carries a parity, a command and an end mark.
+pub fn word(sync: Sync, parity: u32, command: u32, mark: bool) -> u32
+    ensures { λ r. ⌜ r ≡ syncWord sync parity command (bitOf mark) ⌝ }
+{
+    match sync {
+        Sync::Crc12 => crc12_word(parity, command, mark),
+        Sync::Fec => fec_word(parity, command, mark),
     }
+}
+
+fn crc12_parity(bits: u32) -> u32
+    ensures { λ r. ⌜ r ≡ readParity Crc12 (digit 32 bits) ⌝ }
+{
     ((bits >> 20) & 0xe00) ^ ((bits >> 19) & 0x1c0) ^ ((bits >> 18) & 0x38) ^ ((bits >> 17) & 7)
 }
 
-// The command that 32 sync bits carry in mode 0.
-fn plain_command(bits: u32) -> u32
-    ensures { λ r. ⌜ r ≡ readCommand crc12Row (digit 32 bits) ⌝ }
+fn fec_parity(bits: u32) -> u32
+    ensures { λ r. ⌜ r ≡ readParity Fec (digit 32 bits) ⌝ }
+{
+    ((bits >> 6) & 0x03ff_fff0) ^ ((bits >> 5) & 0xf)
+}
+
+// The parity that 32 sync bits carry.
+pub fn parity(sync: Sync, bits: u32) -> u32
+    ensures { λ r. ⌜ r ≡ readParity sync (digit 32 bits) ⌝ }
+{
+    match sync {
+        Sync::Crc12 => crc12_parity(bits),
+        Sync::Fec => fec_parity(bits),
+    }
+}
+
+// The command beside a CRC-12 parity.
+fn crc12_command(bits: u32) -> u32
+    ensures { λ r. ⌜ r ≡ readCommand Crc12 (digit 32 bits) ⌝ }
 {
     ((bits >> 9) & 0x70) ^ ((bits >> 8) & 8) ^ ((bits >> 5) & 7)
 }
 
-// The command that 32 sync bits carry, flagged where one of its headers was invalid.
-pub fn command(mode: u8, bits: u32, invalid: u32) -> u32
-    ensures { λ r. ⌜ r ≡ flaggedCommand (row mode) (digit 32 bits) (digit 32 invalid) ⌝ }
+// The same with its flag.
+fn crc12_flagged(bits: u32, invalid: u32) -> u32
+    ensures { λ r. ⌜ r ≡ flaggedCommand Crc12 (digit 32 bits) (digit 32 invalid) ⌝ }
 {
-    if mode == 1 {
-        return 0;
-    }
-    let own = plain_command(bits);
-    if plain_command(invalid) >= 1 {
+    let own = crc12_command(bits);
+    if crc12_command(invalid) >= 1 {
         return own + 128;
     }
     own
+}
+
+// The command that 32 sync bits carry, flagged where one of its headers was invalid.
+pub fn command(sync: Sync, bits: u32, invalid: u32) -> u32
+    ensures { λ r. ⌜ r ≡ flaggedCommand sync (digit 32 bits) (digit 32 invalid) ⌝ }
+{
+    match sync {
+        Sync::Crc12 => crc12_flagged(bits, invalid),
+        Sync::Fec => 0,
+    }
 }

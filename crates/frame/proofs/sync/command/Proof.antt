@@ -1,47 +1,34 @@
--- `frame::sync::command` meets its contract: the flag stands above the command of mode 0, and mode 1 has none.
+-- `frame::sync::command` meets its contract: by the kind of sync word; beside an FEC parity there is no command.
 -- Assumes nothing.
-use mathlib.Core.Path.{refl, sym, ap, _∙_, subst}
-use Prim.Native.Nat.{ℕ, _+_, _≤_, _<_}
-use native.Mathlib.Omega.{arith}
+use mathlib.Core.Path.{refl, sym, ap, _∙_}
 use borrow.Author.Needs.{needs}
 use Rattle.bits.specs.Order.{digit}
-use Rattle.bits.proofs.Numbers.{digit-lt}
-use Rattle.frame.specs.Modes.{Row, crc12Row, fecRow}
+use Rattle.frame.specs.declared.modes.Sync.{Sync}
+use Rattle.frame.specs.declared.modes.Sync.the-variants.{Fec}
 use Rattle.frame.specs.SyncWord.{flaggedCommand}
-use Rattle.frame.proofs.SyncWord.{fec-row, crc12-row, readCommand-lt, flagged, unflagged, no-flagged-command}
+use Rattle.frame.proofs.SyncWord.{no-flagged-command}
 use Rattle.frame.proofs.sync.command.Statement.{statement}
 use Rattle.frame.proofs.sync.command.Tie as tie
 
+enum-told : tie.Need-enum-told
+enum-told c = search needs
+
+crc12-flagged-requires : tie.Need-crc12-flagged-requires
+crc12-flagged-requires c κs = search needs
+
+enum-told-2 : tie.Need-enum-told-2
+enum-told-2 c = search needs
+
 returns : tie.Need-returns
 returns c =
-    let a = c .before .args in
-    sym (ap (λ (R : Row). flaggedCommand R (digit 32 (a .bits)) (digit 32 (a .invalid))) (fec-row (a .mode) (c .if1 .taken))
-    ∙ no-flagged-command fecRow refl (digit 32 (a .bits)) (digit 32 (a .invalid)))
-
-plain-command-requires : tie.Need-plain-command-requires
-plain-command-requires c κs = search needs
-
-plain-command-requires-2 : tie.Need-plain-command-requires-2
-plain-command-requires-2 c κs = search needs
-
-add-result : tie.Need-add-result
-add-result c =
-    let a = c .before .before .before .before .args in
-    omega (arith, c .before .before .plain-command .ensures, readCommand-lt crc12Row (digit 32 (a .bits)) (digit-lt 32 (a .bits)))
+    let a = c .before .before .before .args in
+    c .crc12-flagged .ensures ∙ ap (λ (S : Sync). flaggedCommand S (digit 32 (a .bits)) (digit 32 (a .invalid))) (sym (c .before .enum-told .given .1))
 
 returns-2 : tie.Need-returns-2
 returns-2 c =
-    let a = c .before .before .before .before .args in
-    ap (λ (x : ℕ). x + 128) (c .before .before .plain-command .ensures)
-    ∙ flagged crc12Row (digit 32 (a .bits)) (digit 32 (a .invalid)) (subst (λ (x : ℕ). 1 ≤ x) (c .before .plain-command2 .ensures) (c .if2 .taken))
-    ∙ ap (λ (R : Row). flaggedCommand R (digit 32 (a .bits)) (digit 32 (a .invalid))) (sym (crc12-row (a .mode) (c .before .before .before .if1 .left)))
-
-returns-3 : tie.Need-returns-3
-returns-3 c =
-    let a = c .before .before .before .before .args in
-    c .before .before .plain-command .ensures
-    ∙ unflagged crc12Row (digit 32 (a .bits)) (digit 32 (a .invalid)) (subst (λ (x : ℕ). x < 1) (c .before .plain-command2 .ensures) (c .if2 .left))
-    ∙ ap (λ (R : Row). flaggedCommand R (digit 32 (a .bits)) (digit 32 (a .invalid))) (sym (crc12-row (a .mode) (c .before .before .before .if1 .left)))
+    let a = c .before .before .args in
+    sym (ap (λ (S : Sync). flaggedCommand S (digit 32 (a .bits)) (digit 32 (a .invalid))) (c .enum-told2 .given .1)
+    ∙ no-flagged-command Fec refl (digit 32 (a .bits)) (digit 32 (a .invalid)))
 
 pub command-spec : {M : Type 1} → statement M
-command-spec = tie.close (tie.spec returns plain-command-requires plain-command-requires-2 add-result returns-2 returns-3)
+command-spec = tie.close (tie.spec enum-told crc12-flagged-requires enum-told-2 returns returns-2)

@@ -1,0 +1,71 @@
+-- What is true of every sync word, by its kinds, and of every mode's row, by a test over the list. Document 01, "From octets to lane bits".
+-- Assumes nothing.
+use mathlib.Core.Path.{_≡_, refl}
+use mathlib.Core.Bool.{true}
+use mathlib.Core.List.{List, [], _∷_}
+use Prim.Native.Nat.{ℕ, zero, suc, _≤_}
+use borrow.Author.Tests.{leb-true, le-leb}
+use lib.Dec.{leb, lit≤}
+use lib.ListN.{getD}
+use Rattle.bits.proofs.Choice.{both-true, parts-true}
+use Rattle.parity.proofs.Bursts.{Proper, crc12-proper, fec-proper}
+use Rattle.frame.specs.declared.modes.Sync.{Sync}
+use Rattle.frame.specs.declared.modes.Sync.the-variants.{Crc12, Fec}
+use Rattle.frame.specs.declared.modes.Row.{Row}
+use Rattle.frame.specs.Lane.{blockWidth, laneOctets}
+use Rattle.frame.specs.Modes.{mark, layout, code, rows, noRow, row, mostOfAll, longestLane, extentFits}
+use Rattle.frame.specs.SyncWord.{key, position}
+
+-- ---- of every sync word
+
+-- the end mark stands at position 22
+pub mark-position : (S : Sync) → position (layout S) mark ≡ 22
+unfolding position key
+mark-position Crc12 = refl
+mark-position Fec = refl
+
+pub proper : (S : Sync) → Proper (code S)
+proper Crc12 = crc12-proper
+proper Fec = fec-proper
+
+-- ---- of every row
+
+abbrev pub Each : (Row → Type 0) → List Row → Type 0
+Each P [] = Unit {0}
+Each P (R ∷ rest) = P R × Each P rest
+
+each-at : (P : Row → Type 0) (l : List Row) → Each P l → P noRow → (mode : ℕ) → P (getD l mode noRow)
+each-at P [] e n mode = n
+each-at P (R ∷ l) e n zero = e .0
+each-at P (R ∷ l) e n (suc mode) = each-at P l (e .1) n mode
+
+pub of-each : (P : Row → Type 0) → Each P rows → P noRow → (mode : ℕ) → P (row mode)
+unfolding row
+of-each P e n mode = each-at P rows e n mode
+
+-- blocks of 66 bits
+pub no-gap : (mode : ℕ) → row mode .gap ≡ 0
+no-gap = of-each (λ (R : Row). R .gap ≡ 0) (refl, (refl, tt)) refl
+
+-- no call takes more than the most of all
+pub few : (mode : ℕ) → row mode .most ≤ mostOfAll
+unfolding mostOfAll
+few = of-each (λ (R : Row). R .most ≤ mostOfAll) (lit≤ tt, (lit≤ tt, tt)) (lit≤ tt)
+
+pub most-is : mostOfAll ≡ 240
+unfolding mostOfAll
+most-is = refl
+
+pub longest-is : longestLane ≡ 63360
+unfolding longestLane laneOctets blockWidth
+longest-is = refl
+
+-- ---- E
+
+pub extent-within : (E : ℕ) → extentFits E ≡ true → (1 ≤ E) × (E ≤ 256)
+unfolding extentFits
+extent-within E e = let both = parts-true (leb 1 E) (leb E 256) e in (leb-true 1 E (both .0), leb-true E 256 (both .1))
+
+pub extent-fits : (E : ℕ) → 1 ≤ E → E ≤ 256 → extentFits E ≡ true
+unfolding extentFits
+extent-fits E l m = both-true (leb 1 E) (leb E 256) (le-leb 1 E l) (le-leb E 256 m)

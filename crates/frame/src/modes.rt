@@ -1,0 +1,103 @@
+// The modes and their numbers, which no other place in the code has: document 01, "From octets to lane bits" and "Numbers of refusal"; clauses
+// 7.1, 7.3.4 and 7.3.6. A row is a mode's sync word, the bits between the data octets of its blocks, and the multiblocks that one call takes.
+ghost use mathlib.Core.Path.{_≡_};
+ghost use Rattle.frame.specs.Modes.{known, row, numbersOf, extentFits, mostOfAll, longestLane};
+
+// What a sync word carries: the parity of CRC-12 and a command, or the parity of FEC.
+pub enum Sync {
+    Crc12,
+    Fec,
+}
+
+pub struct Row {
+    pub sync: Sync,
+    pub gap: u8,
+    pub most: usize,
+}
+
+// What follows from a row: parities and commands are below these; octets of a multiblock on the lane, and bits of a block; whether a burst is
+// flipped back.
+pub struct Numbers {
+    pub parities: u32,
+    pub commands: u32,
+    pub octets: usize,
+    pub width: u32,
+    pub repairs: bool,
+}
+
+// For buffers of a fixed size: the most multiblocks that a call takes in any mode, and the most lane octets.
+pub const MOST: usize = 240;
+
+pub const LONGEST_LANE: usize = 264 * MOST;
+
+// Whether a mode has this number.
+pub fn known(mode: u8) -> bool
+    ensures { λ r. ⌜ r ≡ known mode ⌝ }
+{
+    mode < 2
+}
+
+// The row of a mode. By the row of a number that is none no call takes a multiblock.
+pub fn row_of(mode: u8) -> Row
+    ensures { λ r. ⌜ r ≡ row mode ⌝ }
+{
+    match mode {
+        0 => Row {
+            sync: Sync::Crc12,
+            gap: 0,
+            most: 240,
+        },
+        1 => Row {
+            sync: Sync::Fec,
+            gap: 0,
+            most: 240,
+        },
+        _ => Row {
+            sync: Sync::Crc12,
+            gap: 0,
+            most: 0,
+        },
+    }
+}
+
+// The numbers that follow from a row.
+pub fn numbers_of(row: Row) -> Numbers
+    ensures { λ r. ⌜ r ≡ numbersOf row ⌝ }
+{
+    let sync = row.sync;
+    let width = 66 + 7 * (row.gap as u32);
+    match sync {
+        Sync::Crc12 => Numbers {
+            parities: 0x1000,
+            commands: 0x80,
+            octets: 4 * width as usize,
+            width,
+            repairs: false,
+        },
+        Sync::Fec => Numbers {
+            parities: 0x400_0000,
+            commands: 1,
+            octets: 4 * width as usize,
+            width,
+            repairs: true,
+        },
+    }
+}
+
+// Whether a number of multiblocks may make an extended multiblock.
+pub fn extent_fits(e: u32) -> bool
+    ensures { λ r. ⌜ r ≡ extentFits e ⌝ }
+{
+    if e < 1 {
+        return false;
+    }
+    e <= 256
+}
+
+// The constants are the numbers of the rows.
+fn tied()
+    ensures { λ _. do
+      most ← ⟦MOST⟧ .entry
+      longest ← ⟦LONGEST_LANE⟧ .entry
+      ⌜ (most ≡ mostOfAll) × (longest ≡ longestLane) ⌝ }
+{}
