@@ -16,7 +16,7 @@ use Rattle.bits.proofs.Numbers.{digit-at, number-none, number-lt, number-ext, n
 use Rattle.bits.proofs.Tests.{left, right, every, every-at}
 use Rattle.frame.specs.declared.modes.Sync.{Sync}
 use Rattle.frame.specs.declared.modes.Sync.the-variants.{Crc12, Fec}
-use Rattle.frame.specs.Modes.{Field, parity, command, mark, fixed, layout, code, commandWidth}
+use Rattle.frame.specs.Modes.{Field, parity, command, mark, fixed, layout, code, commandWidth, flaggedBound}
 use Rattle.frame.specs.SyncWord.{held, syncWord, key, position, readParity, readCommand, flaggedCommand}
 
 -- ---- the test
@@ -305,3 +305,9 @@ module _ (S : Sync) (s : Stands S) where
 
   pub rank-le-place : (r : ℕ) → r < code S .width → r ≤ parityPlace S r
   rank-le-place r h = subst (λ (x : ℕ). r ≤ parityPlace S x) {x = 0 + r} {y = r} (omega arith) (omega (arith, places-apart 0 r (omega arith)))
+
+-- ---- a command that was read is in its range
+
+pub flagged-fits : (S : Sync) (bits invalid : ℕ → ℕ) → ((t : ℕ) → bits t < 2) → flaggedCommand S bits invalid < flaggedBound S
+flagged-fits Crc12 bits invalid d = flaggedCommand-lt Crc12 bits d invalid
+flagged-fits Fec bits invalid d = omega (arith, no-flagged-command Fec refl bits invalid)

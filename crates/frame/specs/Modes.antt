@@ -2,7 +2,7 @@
 use mathlib.Core.Bool.{Bool, true, false, _&&_}
 use mathlib.Core.List.{List, [], _∷_, _++_}
 use Prim.Native.Nat.{ℕ, zero, suc, _+_, _*_, _^_}
-use lib.Dec.{ltb, leb}
+use lib.Dec.{ltb, leb, eqb}
 use lib.ListN.{length, getD, replicate}
 use Rattle.bits.specs.Choice.{pick}
 use Rattle.parity.specs.Codeword.{Code, crc12, fec}
@@ -47,6 +47,10 @@ abbrev pub commandWidth : Sync → ℕ
 commandWidth Crc12 = 7
 commandWidth Fec = 0
 
+-- commands with their flag are below this, and 0 is the only one where there is none
+abbrev pub flaggedBound : Sync → ℕ
+flaggedBound S = pick (eqb (commandWidth S) 0) 1 (2 ^ (commandWidth S + 1))
+
 -- whether a burst is flipped back, or only noticed
 abbrev pub repairs : Sync → Bool
 repairs Crc12 = false
@@ -76,6 +80,7 @@ abbrev pub numbersOf : Row → Numbers
 numbersOf R = record {
   parities = 2 ^ code (R .sync) .width;
   commands = 2 ^ commandWidth (R .sync);
+  flagged = flaggedBound (R .sync);
   octets = laneOctets (R .gap);
   width = blockWidth (R .gap);
   repairs = repairs (R .sync);

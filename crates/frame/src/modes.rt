@@ -15,11 +15,12 @@ pub struct Row {
     pub most: usize,
 }
 
-// What follows from a row: parities and commands are below these; octets of a multiblock on the lane, and bits of a block; whether a burst is
-// flipped back.
+// What follows from a row: parities, commands and commands with their flag are below these; octets of a multiblock on the lane, and bits of a
+// block; whether a burst is flipped back.
 pub struct Numbers {
     pub parities: u32,
     pub commands: u32,
+    pub flagged: u32,
     pub octets: usize,
     pub width: u32,
     pub repairs: bool,
@@ -70,6 +71,7 @@ pub fn numbers_of(row: Row) -> Numbers
         Sync::Crc12 => Numbers {
             parities: 0x1000,
             commands: 0x80,
+            flagged: 0x100,
             octets: 4 * width as usize,
             width,
             repairs: false,
@@ -77,6 +79,7 @@ pub fn numbers_of(row: Row) -> Numbers
         Sync::Fec => Numbers {
             parities: 0x400_0000,
             commands: 1,
+            flagged: 1,
             octets: 4 * width as usize,
             width,
             repairs: true,

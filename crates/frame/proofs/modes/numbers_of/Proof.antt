@@ -7,7 +7,7 @@ use Rattle.frame.specs.declared.modes.Sync.{Sync}
 use Rattle.frame.specs.declared.modes.Row.{Row}
 use Rattle.frame.specs.declared.modes.Numbers.{Numbers}
 use Rattle.frame.specs.Lane.{blockWidth, laneOctets}
-use Rattle.frame.specs.Modes.{code, commandWidth, repairs, numbersOf}
+use Rattle.frame.specs.Modes.{code, commandWidth, flaggedBound, repairs, numbersOf}
 use Rattle.frame.proofs.modes.numbers_of.Statement.{statement}
 use Rattle.frame.proofs.modes.numbers_of.Tie as tie
 
@@ -15,6 +15,7 @@ abbrev numbersBy : Row → Sync → Numbers
 numbersBy R S = record {
   parities = 2 ^ code S .width;
   commands = 2 ^ commandWidth S;
+  flagged = flaggedBound S;
   octets = laneOctets (R .gap);
   width = blockWidth (R .gap);
   repairs = repairs S;
