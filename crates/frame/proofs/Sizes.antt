@@ -1,10 +1,16 @@
 -- How many octets a multiblock makes: document 01, "From octets to lane bits". Assumes nothing.
 use mathlib.Core.Path.{_≡_}
 use mathlib.Core.List.{List}
-use Prim.Native.Nat.{ℕ}
+use Prim.Native.Nat.{ℕ, _<_}
+use native.Mathlib.Omega.{arith}
 use lib.ListN.{length}
 use Rattle.bits.proofs.Octets.{length-octetsOf}
-use Rattle.frame.specs.Lane.{laneOctets, multiblock, multiblockBit}
+use Rattle.frame.specs.Lane.{blockWidth, laneOctets, multiblock, multiblockBit}
+
+-- there are some
+pub octets-some : (gap : ℕ) → 0 < laneOctets gap
+unfolding laneOctets blockWidth
+octets-some gap = omega arith
 
 pub length-multiblock : (gap sync : ℕ) (octets : List ℕ) → length (multiblock gap sync octets) ≡ laneOctets gap
 unfolding multiblock
