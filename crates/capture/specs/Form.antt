@@ -1,21 +1,16 @@
 -- The form of a capture: document 01, "Capture and listing". Two sections, each after its count in four octets, highest first: the settings
 -- (mode, and E in two octets), and the lane octets. Nothing follows. Assumes nothing.
-use mathlib.Core.Bool.{Bool, true, false, _&&_}
-use mathlib.Core.List.{List}
-use Prim.Native.Nat.{ℕ, _-_, _%_}
-use lib.Dec.{ltb, leb, eqb}
+use mathlib.Core.Bool.{Bool, not, _&&_}
+use mathlib.Core.List.{List, [], _∷_}
+use Prim.Native.Nat.{ℕ, _+_, _-_, _*_, _%_}
+use lib.Dec.{leb, eqb}
 use lib.ListN.{length, getD, drop}
 use Rattle.bits.specs.Choice.{pick}
 use Rattle.bits.specs.Order.{bitAt, number}
-use Rattle.frame.specs.Modes.{row}
+use Rattle.bits.specs.Refusals.{Line, _when_, refusalBy}
+use Rattle.frame.specs.Modes.{known, row, longestLane, extentFits}
 use Rattle.frame.specs.Lane.{laneOctets}
 use Rattle.capture.specs.declared.Opened.{Opened}
-
--- the two counts are right, and there are at most 63,371 octets
-unfoldable pub wellFormed : List ℕ → Bool
-wellFormed capture =
-    (leb 11 (length capture) && leb (length capture) 63371)
-    && (eqb (number (bitAt capture) 0 32) 3 && eqb (number (bitAt capture) 56 32) (length capture - 11))
 
 unfoldable pub modeOf : List ℕ → ℕ
 modeOf capture = getD capture 4 0
@@ -26,15 +21,27 @@ extentOf capture = number (bitAt capture) 40 16
 unfoldable pub laneOf : List ℕ → List ℕ
 laneOf capture = drop 11 capture
 
--- 8 first, then the table's order
+-- the lane octets of a mode's longest call; of any mode's, where the number is no mode's
+unfoldable pub longestOf : ℕ → ℕ
+longestOf mode = pick (known mode) (laneOctets (row mode .gap) * row mode .most) longestLane
+
+-- the two counts are right, and there are no more lane octets than one call takes: 63,371 octets in all
+unfoldable pub wellFormed : List ℕ → Bool
+wellFormed capture =
+    (leb 11 (length capture) && leb (length capture) (11 + longestOf (modeOf capture)))
+    && (eqb (number (bitAt capture) 0 32) 3 && eqb (number (bitAt capture) 56 32) (length capture - 11))
+
+-- the table: 8 first, then document 01's order
+abbrev pub refusals : List ℕ → List Line
+refusals capture =
+    8 when not (wellFormed capture)
+    ∷ 1 when not (known (modeOf capture))
+    ∷ 2 when not (extentFits (extentOf capture))
+    ∷ 4 when not (eqb (length (laneOf capture) % laneOctets (row (modeOf capture) .gap)) 0)
+    ∷ []
+
 unfoldable pub refusalOf : List ℕ → ℕ
-refusalOf capture =
-    pick (wellFormed capture)
-    (pick (ltb 1 (modeOf capture)) 1
-    (pick (leb 1 (extentOf capture) && leb (extentOf capture) 256)
-    (pick (eqb (length (laneOf capture) % laneOctets (row (modeOf capture) .gap)) 0) 0 4)
-    2))
-    8
+refusalOf capture = refusalBy (refusals capture)
 
 -- where the lane octets stand, and how many there are
 unfoldable pub opened : List ℕ → Opened

@@ -1,4 +1,4 @@
 -- The form of a capture, and the text of its listing.
 pub mod Form
 pub mod Listing
-pub mod Lane
+pub mod inner

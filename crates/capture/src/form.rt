@@ -1,14 +1,28 @@
 // The form of a capture: document 01, "Capture and listing". Two sections, each after its count in four octets, highest first.
 ghost use mathlib.Core.Path.{_≡_};
-ghost use Prim.Native.Nat.{_*_};
+ghost use Prim.Native.Nat.{_*_, _≤_};
 ghost use Rattle.bits.specs.Order.{bitAt, number};
-ghost use Rattle.capture.specs.Form.{wellFormed, extentOf, refusalOf};
+ghost use Rattle.frame.specs.Modes.{longestLane};
+ghost use Rattle.capture.specs.Form.{longestOf, wellFormed, extentOf, refusalOf};
+use frame::modes;
 
 // The count of a section, which stands before it.
 fn count_at(capture: &[u8], at: usize) -> u64
     ensures { λ r. ⌜ r ≡ number (bitAt (now (capture .entry))) (8 * at) 32 ⌝ }
 {
     bits::word_at(capture, at) >> 32
+}
+
+// The most lane octets of a capture, by its mode where that is known.
+fn longest_of(mode: u8) -> usize
+    ensures { λ r. ⌜ (r ≡ longestOf mode) × (r ≤ longestLane) ⌝ }
+{
+    if !modes::known(mode) {
+        return modes::LONGEST_LANE;
+    }
+    let row = modes::row_of(mode);
+    let numbers = modes::numbers_of(row);
+    numbers.octets * row.most
 }
 
 // Whether both counts are right, with nothing after, and the whole is not too long.
@@ -18,7 +32,7 @@ fn well_formed(capture: &[u8]) -> bool
     if capture.len() < 11 {
         return false;
     }
-    if capture.len() > 63371 {
+    if capture.len() > 11 + longest_of(bits::octet_at(capture, 4)) {
         return false;
     }
     if count_at(capture, 0) != 3 {
@@ -44,17 +58,15 @@ pub(crate) fn refusal_of(capture: &[u8]) -> u8
     if !well_formed(capture) {
         return 8;
     }
-    if bits::octet_at(capture, 4) > 1 {
+    let mode = bits::octet_at(capture, 4);
+    if !modes::known(mode) {
         return 1;
     }
-    let e = extent_of(capture);
-    if e < 1 {
+    if !modes::extent_fits(extent_of(capture)) {
         return 2;
     }
-    if e > 256 {
-        return 2;
-    }
-    if (capture.len() - 11) % 264 != 0 {
+    let numbers = modes::numbers_of(modes::row_of(mode));
+    if (capture.len() - 11) % numbers.octets != 0 {
         return 4;
     }
     0

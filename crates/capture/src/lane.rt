@@ -1,11 +1,18 @@
 // The lane of a capture, received and listed: document 01, "Capture and listing".
 ghost use mathlib.Core.Path.{_≡_};
-ghost use Prim.Native.Nat.{_%_, _≤_};
+ghost use mathlib.Core.Bool.{true};
+ghost use Prim.Native.Nat.{_*_, _%_, _≤_};
 ghost use lib.ListN.{length};
-ghost use Rattle.capture.specs.Listing.{done, laidOver};
-ghost use Rattle.capture.specs.Lane.{releasesOf, Lists, laneText};
-use crate::Listed;
+ghost use Rattle.frame.specs.Modes.{known, row, mostOfAll};
+ghost use Rattle.frame.specs.Lane.{laneOctets};
+ghost use Rattle.text.specs.Writing.{done, roomOver};
+ghost use Rattle.capture.specs.Listing.{releasesOf, laneText};
+ghost use Rattle.capture.specs.inner.Lists.{Lists};
+use frame::modes;
 use receiver::Receiver;
+use text::Listed;
+
+const OCTETS: usize = 256 * modes::MOST;
 
 // How many a fresh receiver releases, with the status, place and pattern of each.
 fn receive(
@@ -15,12 +22,12 @@ fn receive(
     places: &mut [u16],
     patterns: &mut [u16],
 ) -> usize
-    requires { ⌜ (mode ≤ 1) × (length (now lane) % 264 ≡ 0) × (length (now lane) ≤ 63360) ⌝ }
-    requires { ⌜ (length (now statuses) ≡ 240) × (length (now places) ≡ 240) × (length (now patterns) ≡ 240) ⌝ }
-    ensures { λ r. ⌜ Lists (releasesOf mode (now (lane .entry))) r (now (statuses .exit)) (now (places .exit)) (now (patterns .exit)) ⌝ }
+    requires { ⌜ (known mode ≡ true) × (length (now lane) % laneOctets (row mode .gap) ≡ 0) × (length (now lane) ≤ laneOctets (row mode .gap) * row mode .most) ⌝ }
+    requires { ⌜ (length (now statuses) ≡ mostOfAll) × (length (now places) ≡ mostOfAll) × (length (now patterns) ≡ mostOfAll) ⌝ }
+    ensures { λ r. ⌜ Lists (releasesOf (row mode) (now (lane .entry))) r (now (statuses .exit)) (now (places .exit)) (now (patterns .exit)) ⌝ }
 {
-    let mut octets = [0u8; 61440];
-    let mut commands = [0u32; 240];
+    let mut octets = [0u8; OCTETS];
+    let mut commands = [0u32; modes::MOST];
     let received = receiver::receive(
         mode,
         Receiver::fresh(),
@@ -36,24 +43,22 @@ fn receive(
 
 // The listing of a lane of whole multiblocks, over the start of `text`.
 pub(crate) fn list(text: &mut [u8], mode: u8, e: u32, lane: &[u8]) -> Listed
-    requires { ⌜ (mode ≤ 1) × (length (now lane) % 264 ≡ 0) × (length (now lane) ≤ 63360) ⌝ }
-    ensures { λ r. ⌜ done r (now (text .exit)) ≡ laidOver (laneText mode e (now (lane .entry))) (now (text .entry)) ⌝ }
+    requires { ⌜ (known mode ≡ true) × (length (now lane) % laneOctets (row mode .gap) ≡ 0) × (length (now lane) ≤ laneOctets (row mode .gap) * row mode .most) ⌝ }
+    ensures { λ r. ⌜ done r (now (text .exit)) ≡ roomOver (laneText (row mode) e (now (lane .entry))) (now (text .entry)) ⌝ }
 {
-    let mut statuses = [0u8; 240];
-    let mut places = [0u16; 240];
-    let mut patterns = [0u16; 240];
+    let mut statuses = [0u8; modes::MOST];
+    let mut places = [0u16; modes::MOST];
+    let mut patterns = [0u16; modes::MOST];
     let count = receive(mode, lane, &mut statuses, &mut places, &mut patterns);
-    let written = text::write(
+    let row = modes::row_of(mode);
+    let numbers = modes::numbers_of(row);
+    text::write(
         text,
-        mode,
+        row,
         e,
-        (lane.len() / 264) as u32,
+        (lane.len() / numbers.octets) as u32,
         &statuses[..count],
         &places[..count],
         &patterns[..count],
-    );
-    Listed {
-        refusal: written.refusal,
-        count: written.count,
-    }
+    )
 }

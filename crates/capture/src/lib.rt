@@ -1,7 +1,9 @@
 // The capture's form and the listing's text: document 01, "Capture and listing".
 ghost use mathlib.Core.Path.{_≡_};
 ghost use Rattle.capture.specs.Form.{opened};
-ghost use Rattle.capture.specs.Listing.{done, listed};
+ghost use Rattle.text.specs.Writing.{done};
+ghost use Rattle.capture.specs.Listing.{listed};
+use text::Listed;
 
 mod form;
 mod lane;
@@ -12,13 +14,6 @@ pub struct Opened {
     pub mode: u8,
     pub e: u32,
     pub start: usize,
-    pub count: usize,
-}
-
-// A refusal, or 0 with the octets of text.
-#[repr(C)]
-pub struct Listed {
-    pub refusal: u8,
     pub count: usize,
 }
 

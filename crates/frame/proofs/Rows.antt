@@ -3,7 +3,8 @@
 use mathlib.Core.Path.{_≡_, refl}
 use mathlib.Core.Bool.{true}
 use mathlib.Core.List.{List, [], _∷_}
-use Prim.Native.Nat.{ℕ, zero, suc, _≤_}
+use Prim.Native.Nat.{ℕ, zero, suc, _*_, _≤_}
+use native.Mathlib.Nat.{le-trans, mul-le-mul-left}
 use borrow.Author.Tests.{leb-true, le-leb}
 use lib.Dec.{leb, lit≤}
 use lib.ListN.{getD}
@@ -59,6 +60,14 @@ most-is = refl
 pub longest-is : longestLane ≡ 63360
 unfolding longestLane laneOctets blockWidth
 longest-is = refl
+
+pub lane-within : (mode : ℕ) → laneOctets (row mode .gap) * row mode .most ≤ longestLane
+unfolding longestLane laneOctets blockWidth
+lane-within = of-each (λ (R : Row). laneOctets (R .gap) * R .most ≤ longestLane) (lit≤ tt, (lit≤ tt, tt)) (lit≤ tt)
+
+-- the lane of as many multiblocks as a call takes
+pub lane-fits : (mode k : ℕ) → k ≤ row mode .most → laneOctets (row mode .gap) * k ≤ longestLane
+lane-fits mode k h = le-trans (mul-le-mul-left (laneOctets (row mode .gap)) h) (lane-within mode)
 
 -- ---- E
 

@@ -1,4 +1,4 @@
--- What a verdict is by the difference of the two parities, what it mends, and what is releasedStatus of it: document 01, "What the receiver releases".
+-- What a verdict is by the difference of the two parities, what it mends, and what status is released: document 01, "What the receiver releases".
 -- Assumes nothing.
 use mathlib.Core.Path.{_≡_, refl, sym, ap, _∙_}
 use mathlib.Core.Logic.{_⊎_, inl, inr, _≢_}

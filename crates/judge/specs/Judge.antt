@@ -10,8 +10,9 @@ use Rattle.parity.specs.declared.Burst.{Burst}
 use Rattle.parity.specs.declared.Burst.the-variants.{At, Nothing}
 use Rattle.parity.specs.Codeword.{parityOf}
 use Rattle.parity.specs.Bursts.{flips}
-use Rattle.parity.proofs.Answer.{burstFor}
-use Rattle.frame.specs.Modes.{Row}
+use Rattle.parity.specs.Answer.{burstFor, placeOf, patternOf}
+use Rattle.frame.specs.declared.modes.Sync.{Sync}
+use Rattle.frame.specs.Modes.{code, repairs}
 use Rattle.judge.specs.declared.Verdict.{Verdict}
 
 -- 0: parity agrees
@@ -22,17 +23,20 @@ agrees = record { status = 0; place = 0; pattern = 0 }
 abbrev pub failed : Verdict
 failed = record { status = 2; place = 0; pattern = 0 }
 
--- 1: a burst explains it
+-- 1 with the burst that explains it; 2 where none does
+abbrev pub statusOf : Burst → ℕ
+statusOf (At place pattern) = 1
+statusOf Nothing = 2
+
 abbrev pub byBurst : Burst → Verdict
-byBurst (At place pattern) = record { status = 1; place = place; pattern = pattern }
-byBurst Nothing = failed
+byBurst burst = record { status = statusOf burst; place = placeOf burst; pattern = patternOf burst }
 
 -- by the difference between the parity of what was received and the parity received
-unfoldable pub verdictOf : Row → ℕ → Verdict
-verdictOf R difference = pick (eqb difference 0) agrees (pick (R .repairs) (byBurst (burstFor difference)) failed)
+unfoldable pub verdictOf : Sync → ℕ → Verdict
+verdictOf S difference = pick (eqb difference 0) agrees (pick (repairs S) (byBurst (burstFor (code S) difference)) failed)
 
-unfoldable pub judged : Row → List ℕ → ℕ → Verdict
-judged R octets parity = verdictOf R (bitXor (parityOf (R .code) octets) parity)
+unfoldable pub judged : Sync → List ℕ → ℕ → Verdict
+judged S octets parity = verdictOf S (bitXor (parityOf (code S) octets) parity)
 
 -- the data with the burst flipped; positions from 2,048 on are parity
 unfoldable pub mended : Verdict → List ℕ → List ℕ

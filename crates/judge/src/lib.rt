@@ -1,14 +1,13 @@
 // What a waiting multiblock turns out to be, and what is released of it: document 01, "What the receiver releases"; clauses 7.4.1 and 7.5.3.
 ghost use mathlib.Core.Path.{_≡_};
 ghost use Prim.Native.Nat.{ℕ, _<_, _≤_};
-ghost use lib.Dec.{ltb};
 ghost use lib.ListN.{length, getD};
-ghost use Rattle.bits.specs.Choice.{pick};
-ghost use Rattle.bits.specs.Order.{bitAt, number};
-ghost use Rattle.bits.specs.Parts.{written};
+ghost use Rattle.bits.specs.Order.{bitAt, number, laidAt};
 ghost use Rattle.scrambler.specs.Scrambling.{descrambled};
-ghost use Rattle.frame.specs.Modes.{row};
+ghost use Rattle.parity.specs.Codeword.{parityOf};
+ghost use Rattle.frame.specs.Modes.{code};
 ghost use Rattle.judge.specs.Judge.{byBurst, verdictOf, judged, mended, releasedStatus, trustedAfter};
+use frame::modes::Sync;
 use parity::Burst;
 use parity::Crc12;
 use parity::Fec;
@@ -20,9 +19,8 @@ pub struct Verdict {
     pub pattern: u16,
 }
 
-// A refusal, or 0; the verdict, and the status that is released with it; the history that the multiblock leaves, and whether it is trusted.
+// The verdict, and the status that is released with it; the history that the multiblock leaves, and whether it is trusted.
 pub struct Released {
-    pub refusal: u8,
     pub verdict: Verdict,
     pub status: u8,
     pub history: u64,
@@ -47,9 +45,9 @@ fn by_burst(burst: Burst) -> Verdict
     }
 }
 
-// By the difference of the two parities. A burst is looked for only where they differ, and only in FEC mode.
-fn verdict_of(mode: u8, difference: u32) -> Verdict
-    ensures { λ r. ⌜ r ≡ verdictOf (row mode) difference ⌝ }
+// By the difference of the two parities. A burst is looked for only where they differ, and only with FEC.
+fn verdict_of(sync: Sync, difference: u32) -> Verdict
+    ensures { λ r. ⌜ r ≡ verdictOf sync difference ⌝ }
 {
     if difference == 0 {
         return Verdict {
@@ -58,25 +56,25 @@ fn verdict_of(mode: u8, difference: u32) -> Verdict
             pattern: 0,
         };
     }
-    if mode != 1 {
-        return Verdict {
+    match sync {
+        Sync::Crc12 => Verdict {
             status: 2,
             place: 0,
             pattern: 0,
-        };
+        },
+        Sync::Fec => by_burst(Fec::burst(difference)),
     }
-    by_burst(Fec::burst(difference))
 }
 
-// By the octets of the waiting multiblock and the parity that came after it. That they are octets is for `mend`.
-fn judge(mode: u8, octets: &[u8], parity: u32) -> Verdict
-    ensures { λ r. ⌜ r ≡ judged (row mode) (now (octets .entry)) parity ⌝ }
+// The parity of octets. That they are octets is for `mend`.
+fn parity_of(sync: Sync, octets: &[u8]) -> u32
+    ensures { λ r. ⌜ r ≡ parityOf (code sync) (now (octets .entry)) ⌝ }
     ensures { λ _. ⌜ ((j : ℕ) → getD (now (octets .entry)) j 0 < 256) ⌝ }
 {
-    if mode == 1 {
-        return verdict_of(mode, Fec::of(octets) ^ parity);
+    match sync {
+        Sync::Crc12 => Crc12::of(octets),
+        Sync::Fec => Fec::of(octets),
     }
-    verdict_of(mode, Crc12::of(octets) ^ parity)
 }
 
 // The octets with the burst flipped. Positions from 2,048 on are parity, and no octet holds them.
@@ -120,28 +118,26 @@ fn trusted_after(verdict: Verdict) -> bool
     true
 }
 
-// The waiting multiblock, once the parity that came after it is known: its user octets over the start of `out`.
+// The waiting multiblock, once the parity that came after it is known: its user octets over the start of `out`; nothing where they do not fit.
 pub fn release(
-    mode: u8,
+    sync: Sync,
     octets: [u8; 256],
     history: u64,
     trusted: bool,
     parity: u32,
     out: &mut [u8],
 ) -> Released
-    ensures { λ r. ⌜ r .refusal ≡ pick (ltb (length (now (out .entry))) 256) 7 0 ⌝ }
-    ensures { λ r. ⌜ r .verdict ≡ judged (row mode) octets parity ⌝ }
+    ensures { λ r. ⌜ r .verdict ≡ judged sync octets parity ⌝ }
     ensures { λ r. ⌜ r .status ≡ releasedStatus (r .verdict) trusted ⌝ }
     ensures { λ r. ⌜ r .history ≡ number (bitAt (mended (r .verdict) octets)) 1990 58 ⌝ }
     ensures { λ r. ⌜ r .trusted ≡ trustedAfter (r .verdict) ⌝ }
-    ensures { λ r. ⌜ now (out .exit) ≡ written (r .refusal) (descrambled (mended (r .verdict) octets) history 256) (now (out .entry)) ⌝ }
+    ensures { λ r. ⌜ now (out .exit) ≡ laidAt (descrambled (mended (r .verdict) octets) history 256) 0 (now (out .entry)) ⌝ }
 {
-    let verdict = judge(mode, &octets[..], parity);
+    let verdict = verdict_of(sync, parity_of(sync, &octets[..]) ^ parity);
     let whole = mend(octets, verdict);
-    let refusal = scrambler::descramble_multiblock(&whole[..], history, out);
+    scrambler::descramble_multiblock(&whole[..], history, out);
     let after = scrambler::history_of(&whole[..]);
     Released {
-        refusal,
         verdict,
         status: released_status(verdict, trusted),
         history: after,

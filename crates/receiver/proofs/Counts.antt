@@ -8,7 +8,7 @@ use native.Mathlib.Numerals.{add-one}
 use native.Mathlib.Omega.{arith}
 use lib.ListN.{length, length-append}
 use Rattle.bits.specs.Choice.{pick}
-use Rattle.frame.specs.Modes.{Row}
+use Rattle.frame.specs.declared.modes.Row.{Row}
 use Rattle.receiver.specs.declared.Receiver.{Receiver}
 use Rattle.receiver.specs.Release.{Release, Step, waitingAt, releaseAt, step, run}
 use Rattle.receiver.specs.Refusal.{releases}

@@ -4,37 +4,36 @@ use mathlib.Core.Path.{_≡_, refl, sym, ap, _∙_, fun-ext}
 use mathlib.Core.Bool.{Bool, true, false}
 use mathlib.Core.List.{List, [], _∷_, _++_, append-assoc, append-nil}
 use Prim.Native.Nat.{ℕ, zero, suc, _+_, _-_, _*_, _<_}
-use native.Mathlib.Nat.{add-zero, add-suc, mul-add}
+use native.Mathlib.Nat.{add-zero, add-suc, mul-add, mul-assoc}
 use native.Mathlib.Omega.{arith}
 use lib.ListN.{drop}
 use Rattle.bits.specs.Choice.{pick}
 use Rattle.bits.specs.Order.{bitAt, number}
 use Rattle.bits.proofs.Octets.{bit-drop}
 use Rattle.scrambler.specs.Scrambling.{descrambled}
-use Rattle.frame.specs.Modes.{Row, row}
+use Rattle.frame.specs.declared.modes.Row.{Row}
 use Rattle.frame.specs.Lane.{laneOctets, dataBit, syncBit, invalidBit}
 use Rattle.frame.specs.SyncWord.{readParity, flaggedCommand}
 use Rattle.frame.proofs.Lane.{laneFrom, octets-moved, sync-moved, invalid-moved, same-octets}
-use Rattle.frame.proofs.Sizes.{row-octets}
 use Rattle.receiver.specs.declared.Receiver.{Receiver}
 use Rattle.receiver.specs.declared.run.Heard.{Heard}
 use Rattle.judge.specs.Judge.{judged, mended, releasedStatus, trustedAfter}
 use Rattle.receiver.specs.Release.{Release, Step, verdictAt, mendedAt, releaseAt, waitingAt, step, run}
-use Rattle.receiver.specs.Turn.{heardAt}
+use Rattle.receiver.specs.inner.Turn.{heardAt}
 
 -- ---- by what is heard
 
 module _ (R : Row) (s : Receiver) where
   mendedOn : Heard → List ℕ
-  mendedOn h = mended (judged R (s .octets) (h .parity)) (s .octets)
+  mendedOn h = mended (judged (R .sync) (s .octets) (h .parity)) (s .octets)
 
   releaseOn : Heard → Release
   releaseOn h = record {
     octets = descrambled (mendedOn h) (s .history) 256;
-    status = releasedStatus (judged R (s .octets) (h .parity)) (s .trusted);
+    status = releasedStatus (judged (R .sync) (s .octets) (h .parity)) (s .trusted);
     command = s .command;
-    place = judged R (s .octets) (h .parity) .place;
-    pattern = judged R (s .octets) (h .parity) .pattern;
+    place = judged (R .sync) (s .octets) (h .parity) .place;
+    pattern = judged (R .sync) (s .octets) (h .parity) .pattern;
   }
 
   waitingOn : ℕ → Bool → Heard → Receiver
@@ -43,7 +42,7 @@ module _ (R : Row) (s : Receiver) where
   stepOn : Heard → Step
   stepOn h =
       pick (s .waiting)
-      (record { state = waitingOn (number (bitAt (mendedOn h)) 1990 58) (trustedAfter (judged R (s .octets) (h .parity))) h; out = releaseOn h ∷ [] })
+      (record { state = waitingOn (number (bitAt (mendedOn h)) 1990 58) (trustedAfter (judged (R .sync) (s .octets) (h .parity))) h; out = releaseOn h ∷ [] })
       (record { state = waitingOn 0 false h; out = [] })
 
   release-heard : (lane : ℕ → ℕ) (m : ℕ) → releaseAt R lane m s ≡ releaseOn (heardAt R lane m)
@@ -77,8 +76,8 @@ same-run R f g s (suc n) e =
 -- a wrong end mark or wrong fixed bits change nothing: only data bits, and what the parity's and the command's headers read
 pub same-reading : (R : Row) (f g : ℕ → ℕ) (s : Receiver) (n : ℕ)
     → ((m q : ℕ) → m < n → q < 2048 → dataBit (R .gap) f m q ≡ dataBit (R .gap) g m q)
-    → ((m : ℕ) → m < n → readParity R (syncBit (R .gap) f m) ≡ readParity R (syncBit (R .gap) g m))
-    → ((m : ℕ) → m < n → flaggedCommand R (syncBit (R .gap) f m) (invalidBit (R .gap) f m) ≡ flaggedCommand R (syncBit (R .gap) g m) (invalidBit (R .gap) g m))
+    → ((m : ℕ) → m < n → readParity (R .sync) (syncBit (R .gap) f m) ≡ readParity (R .sync) (syncBit (R .gap) g m))
+    → ((m : ℕ) → m < n → flaggedCommand (R .sync) (syncBit (R .gap) f m) (invalidBit (R .gap) f m) ≡ flaggedCommand (R .sync) (syncBit (R .gap) g m) (invalidBit (R .gap) g m))
     → run R f s n ≡ run R g s n
 same-reading R f g s n same-data same-parity same-command = same-run R f g s n alike
   where
@@ -92,8 +91,8 @@ unfolding heardAt
 heard-moved R lane m =
     let g = R .gap in
     let sync : syncBit g lane m ≡ syncBit g (laneFrom g lane m) 0 = fun-ext (sync-moved g lane m) in
-    let invalid₁ : invalidBit g lane m ≡ invalidBit g (laneFrom g lane m) 0 = fun-ext (invalid-moved g lane m) in
-    rw (octets-moved g lane m, sync, invalid₁)
+    let invalid : invalidBit g lane m ≡ invalidBit g (laneFrom g lane m) 0 = fun-ext (invalid-moved g lane m) in
+    rw (octets-moved g lane m, sync, invalid)
 
 module _ (R : Row) (lane : ℕ → ℕ) where
   pub heard-from : (a b : ℕ) → heardAt R lane (a + b) ≡ heardAt R (laneFrom (R .gap) lane a) b
@@ -118,6 +117,5 @@ module _ (R : Row) (lane : ℕ → ℕ) where
 
 -- ---- a lane of octets, from a multiblock on
 
-pub bits-from : (mode : ℕ) (lane : List ℕ) (k : ℕ) → bitAt (drop (264 * k) lane) ≡ laneFrom (row mode .gap) (bitAt lane) k
-bits-from mode lane k =
-    fun-ext (λ x. bit-drop (264 * k) lane x ∙ ap (bitAt lane) (omega (arith, ap (λ (y : ℕ). 8 * y * k + x) (row-octets mode))))
+pub bits-from : (gap : ℕ) (lane : List ℕ) (k : ℕ) → bitAt (drop (laneOctets gap * k) lane) ≡ laneFrom gap (bitAt lane) k
+bits-from gap lane k = fun-ext (λ x. bit-drop (laneOctets gap * k) lane x ∙ ap (bitAt lane) (omega (arith, mul-assoc 8 (laneOctets gap) k)))

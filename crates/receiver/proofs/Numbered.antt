@@ -11,7 +11,7 @@ use lib.ListN.{length, getD, length-append, List·getD-append}
 use lib.Seq.{getD-at, getD-append-add}
 use Rattle.bits.specs.Choice.{pick}
 use Rattle.bits.specs.Order.{bitAt, number}
-use Rattle.frame.specs.Modes.{Row}
+use Rattle.frame.specs.declared.modes.Row.{Row}
 use Rattle.frame.specs.Lane.{dataOctets, syncBit}
 use Rattle.frame.specs.SyncWord.{readParity}
 use Rattle.scrambler.specs.Scrambling.{descrambled}
@@ -51,9 +51,9 @@ module _ (R : Row) (lane : ℕ → ℕ) where
   unfolding run step waitingAt
   waiting-octets i = either-octets (run R lane fresh i .state .waiting) _ _ (dataOctets (R .gap) lane i) refl refl
 
-  pub verdict-is : (i : ℕ) → verdict i ≡ judged R (dataOctets (R .gap) lane i) (readParity R (syncBit (R .gap) lane (suc i)))
+  pub verdict-is : (i : ℕ) → verdict i ≡ judged (R .sync) (dataOctets (R .gap) lane i) (readParity (R .sync) (syncBit (R .gap) lane (suc i)))
   unfolding verdictAt
-  verdict-is i = ap (λ (l : List ℕ). judged R l (readParity R (syncBit (R .gap) lane (suc i)))) (waiting-octets i)
+  verdict-is i = ap (λ (l : List ℕ). judged (R .sync) l (readParity (R .sync) (syncBit (R .gap) lane (suc i)))) (waiting-octets i)
 
   pub whole-is : (i : ℕ) → whole i ≡ mended (verdict i) (dataOctets (R .gap) lane i)
   unfolding mendedAt

@@ -1,21 +1,22 @@
 -- What each refusal stands for, and what an accepted call has: document 01, "Numbers of refusal". Assumes nothing.
 use mathlib.Core.Path.{_≡_, refl, sym, ap, ap₂, _∙_}
 use mathlib.Core.Bool.{Bool, true, false, not, _&&_, _||_}
+use mathlib.Core.List.{[], _∷_}
 use Prim.Native.Nat.{ℕ, _-_, _*_, _/_, _%_, _^_, _≤_, _<_}
 use native.Mathlib.Omega.{arith}
-use borrow.Author.Tests.{lt-ltb, le-ltb, eq-eqb, leb-true, eqb-true}
+use borrow.Author.Tests.{lt-ltb, le-ltb, eq-eqb, leb-true, eqb-true, ltb-false, not-false}
 use lib.Dec.{ltb, leb, eqb}
 use Rattle.bits.specs.Choice.{pick}
-use Rattle.frame.specs.Modes.{Row, row}
-use Rattle.frame.proofs.Sizes.{row-octets, row-most}
+use Rattle.bits.specs.Refusals.{_when_, refusalBy}
+use Rattle.bits.proofs.Choice.{parts-true}
+use Rattle.bits.proofs.Refusals.{not-given}
+use Rattle.frame.specs.declared.modes.Sync.{Sync}
+use Rattle.frame.specs.declared.modes.Row.{Row}
+use Rattle.frame.specs.Modes.{flaggedBound, known, row}
+use Rattle.frame.specs.Lane.{laneOctets}
 use Rattle.receiver.specs.declared.Receiver.{Receiver}
-use Rattle.receiver.specs.Refusal.{commandBound, allZero, stateFits, releases, refusalOf}
-use Rattle.receiver.specs.Turn.{asFresh, roomFor, Room}
-
-both : (a b : Bool) → a && b ≡ true → (a ≡ true) × (b ≡ true)
-both true b e = (refl, e)
-both false true e = (e, refl)
-both false false e = (e, e)
+use Rattle.receiver.specs.Refusal.{allZero, asFresh, stateFits, releases, roomFor, refusals, refusalOf}
+use Rattle.receiver.specs.inner.Turn.{Room}
 
 -- ---- the state
 
@@ -26,62 +27,65 @@ all-fresh s zeros h c t z =
     ∙ sym (ap₂ (λ (a b : Bool). (a && eqb (s .command) 0) && (not b && allZero (s .octets))) (eq-eqb (s .history) 0 h) t
     ∙ ap (λ (a : Bool). a && allZero (s .octets)) (eq-eqb (s .command) 0 c))
 
-module _ (R : Row) (s : Receiver) where
+module _ (S : Sync) (s : Receiver) where
   fits-by : Bool → Bool → Bool → Bool
   fits-by h c w = (h && c) && (w || asFresh s)
 
-  fits-is : stateFits R s ≡ fits-by (ltb (s .history) (2 ^ 58)) (ltb (s .command) (commandBound R)) (s .waiting)
+  fits-is : stateFits S s ≡ fits-by (ltb (s .history) (2 ^ 58)) (ltb (s .command) (flaggedBound S)) (s .waiting)
   unfolding stateFits fits-by asFresh
   fits-is = refl
 
-  pub late-history : 2 ^ 58 ≤ s .history → false ≡ stateFits R s
+  pub late-history : 2 ^ 58 ≤ s .history → false ≡ stateFits S s
   unfolding fits-by
-  late-history h = sym (fits-is ∙ ap (λ (a : Bool). fits-by a (ltb (s .command) (commandBound R)) (s .waiting)) (le-ltb (s .history) (2 ^ 58) h))
+  late-history h = sym (fits-is ∙ ap (λ (a : Bool). fits-by a (ltb (s .command) (flaggedBound S)) (s .waiting)) (le-ltb (s .history) (2 ^ 58) h))
 
   module _ (h : s .history < 2 ^ 58) where
-    timely : (c : Bool) → ltb (s .command) (commandBound R) ≡ c → stateFits R s ≡ fits-by true c (s .waiting)
+    timely : (c : Bool) → ltb (s .command) (flaggedBound S) ≡ c → stateFits S s ≡ fits-by true c (s .waiting)
     timely c e = fits-is ∙ ap₂ (λ (a b : Bool). fits-by a b (s .waiting)) (lt-ltb (s .history) (2 ^ 58) h) e
 
-    pub wide-command : commandBound R ≤ s .command → false ≡ stateFits R s
+    pub wide-command : flaggedBound S ≤ s .command → false ≡ stateFits S s
     unfolding fits-by
-    wide-command c = sym (timely false (le-ltb (s .command) (commandBound R) c))
+    wide-command c = sym (timely false (le-ltb (s .command) (flaggedBound S) c))
 
-    pub waiting-fits : s .command < commandBound R → s .waiting ≡ true → true ≡ stateFits R s
+    pub waiting-fits : s .command < flaggedBound S → s .waiting ≡ true → true ≡ stateFits S s
     unfolding fits-by
-    waiting-fits c w = sym (timely true (lt-ltb (s .command) (commandBound R) c) ∙ ap (fits-by true true) w)
+    waiting-fits c w = sym (timely true (lt-ltb (s .command) (flaggedBound S) c) ∙ ap (fits-by true true) w)
 
-    pub idle-fits : s .command < commandBound R → s .waiting ≡ false → asFresh s ≡ stateFits R s
+    pub idle-fits : s .command < flaggedBound S → s .waiting ≡ false → asFresh s ≡ stateFits S s
     unfolding fits-by
-    idle-fits c w = sym (timely true (lt-ltb (s .command) (commandBound R) c) ∙ ap (fits-by true true) w)
+    idle-fits c w = sym (timely true (lt-ltb (s .command) (flaggedBound S) c) ∙ ap (fits-by true true) w)
 
 -- ---- the order of the numbers
 
--- by the five tests
-abbrev pub refusalBy : Bool → Bool → Bool → Bool → Bool → ℕ
-refusalBy wrong fits whole few room = pick wrong 1 (pick fits (pick whole (pick few (pick room 0 7) 5) 4) 3)
-
 module _ (mode : ℕ) (s : Receiver) (lane octets statuses commands places patterns : ℕ) where
-  pub refusal-is : refusalOf mode s lane octets statuses commands places patterns
-      ≡ refusalBy (ltb 1 mode) (stateFits (row mode) s) (eqb (lane % 264) 0) (leb (lane / 264) 240) (roomFor (releases (s .waiting) (lane / 264)) octets statuses commands places patterns)
-  unfolding refusalOf roomFor
-  refusal-is =
-      ap₂ (λ (a m : ℕ). refusalBy (ltb 1 mode) (stateFits (row mode) s) (eqb (lane % a) 0) (leb (lane / a) m) (roomFor (releases (s .waiting) (lane / a)) octets statuses commands places patterns))
-      (row-octets mode) (row-most mode)
+  -- by the numbers that the code goes by
+  pub refusal-is : (size most : ℕ) → size ≡ laneOctets (row mode .gap) → most ≡ row mode .most
+      → refusalOf mode s lane octets statuses commands places patterns
+      ≡ refusalBy (
+      1 when not (known mode)
+      ∷ 3 when not (stateFits (row mode .sync) s)
+      ∷ 4 when not (eqb (lane % size) 0)
+      ∷ 5 when ltb most (lane / size)
+      ∷ 7 when not (roomFor (releases (s .waiting) (lane / size)) octets statuses commands places patterns)
+      ∷ []
+      )
+  unfolding refusalOf
+  refusal-is size most e f = rw (e, f)
 
 -- ---- an accepted call
 
-pub record Accepted (s : Receiver) (lane octets statuses commands places patterns : ℕ) : Type 0 where
-  pub whole : lane % 264 ≡ 0
-  pub few : lane / 264 ≤ 240
-  pub room : Room (releases (s .waiting) (lane / 264)) octets statuses commands places patterns
+pub record Accepted (mode : ℕ) (s : Receiver) (lane octets statuses commands places patterns : ℕ) : Type 0 where
+  pub whole : lane % laneOctets (row mode .gap) ≡ 0
+  pub few : lane / laneOctets (row mode .gap) ≤ row mode .most
+  pub room : Room (releases (s .waiting) (lane / laneOctets (row mode .gap))) octets statuses commands places patterns
 
 pub room-is : (k octets statuses commands places patterns : ℕ) → roomFor k octets statuses commands places patterns ≡ true → Room k octets statuses commands places patterns
 unfolding roomFor
 room-is k octets statuses commands places patterns e =
-    let a = both (leb (256 * k) octets) _ e in
-    let b = both (leb k statuses) _ (a .1) in
-    let c = both (leb k commands) _ (b .1) in
-    let d = both (leb k places) (leb k patterns) (c .1) in
+    let a = parts-true (leb (256 * k) octets) _ e in
+    let b = parts-true (leb k statuses) _ (a .1) in
+    let c = parts-true (leb k commands) _ (b .1) in
+    let d = parts-true (leb k places) (leb k patterns) (c .1) in
     record {
       octets-fit = leb-true _ _ (a .0);
       statuses-fit = leb-true _ _ (b .0);
@@ -90,20 +94,16 @@ room-is k octets statuses commands places patterns e =
       patterns-fit = leb-true _ _ (d .1);
     }
 
-none-refused : (wrong fits whole few room : Bool) → refusalBy wrong fits whole few room ≡ 0 → (whole ≡ true) × (few ≡ true) × (room ≡ true)
-none-refused false true true true true e = (refl, refl, refl)
-none-refused false true true true false e = absurd (omega arith)
-none-refused false true true false room e = absurd (omega arith)
-none-refused false true false few room e = absurd (omega arith)
-none-refused false false whole few room e = absurd (omega arith)
-none-refused true fits whole few room e = absurd (omega arith)
-
 pub accepted : (mode : ℕ) (s : Receiver) (lane octets statuses commands places patterns : ℕ) → refusalOf mode s lane octets statuses commands places patterns ≡ 0
-    → Accepted s lane octets statuses commands places patterns
+    → Accepted mode s lane octets statuses commands places patterns
+unfolding refusalOf
 accepted mode s lane octets statuses commands places patterns e =
-    let k = releases (s .waiting) (lane / 264) in
-    let tests = none-refused (ltb 1 mode) (stateFits (row mode) s) (eqb (lane % 264) 0) (leb (lane / 264) 240) (roomFor k octets statuses commands places patterns) (sym (refusal-is mode s lane octets statuses commands places patterns) ∙ e) in
-    record { whole = eqb-true _ _ (tests .0); few = leb-true _ _ (tests .1); room = room-is k octets statuses commands places patterns (tests .2) }
+    let lines = refusals mode s lane octets statuses commands places patterns in
+    record {
+      whole = eqb-true _ _ (not-false _ (not-given 4 lines tt e));
+      few = ltb-false _ _ (not-given 5 lines tt e);
+      room = room-is _ octets statuses commands places patterns (not-false _ (not-given 7 lines tt e));
+    }
 
 pub releases-le : (waiting : Bool) (n : ℕ) → releases waiting n ≤ n
 unfolding releases

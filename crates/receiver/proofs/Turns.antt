@@ -1,29 +1,26 @@
 -- One turn of a run after another: the state, and every buffer as the releases so far lie in it. Document 01, "What the receiver releases".
 -- Assumes nothing.
 use mathlib.Core.Path.{_≡_, refl, sym, ap, ap₂, _∙_}
-use mathlib.Core.Bool.{Bool, true}
+use mathlib.Core.Bool.{true}
 use mathlib.Core.List.{List, [], _∷_, _++_}
 use Prim.Native.Nat.{ℕ, _+_, _-_, _*_, _≤_, _<_}
 use native.Mathlib.Omega.{arith}
-use borrow.Author.Tests.{le-ltb}
-use lib.Dec.{ltb}
 use lib.ListN.{length, take, drop, set, length-set, length-drop}
 use lib.Seq.{take-all}
 use borrow.Rule.Slice.PartMut.{putMid, midOf, same-len-mid}
-use Rattle.bits.specs.Choice.{pick}
-use Rattle.bits.specs.Order.{bitAt, number, laid}
-use Rattle.bits.specs.Parts.{written}
-use Rattle.bits.proofs.Laid.{laid-nothing, laid-set, laid-part}
-use Rattle.bits.proofs.Parts.{answered}
+use Rattle.bits.specs.Order.{bitAt, number, laid, laidAt}
+use Rattle.bits.proofs.Laid.{laid-nothing, laid-set, laid-part, laid-start}
 use Rattle.scrambler.specs.Scrambling.{descrambled}
-use Rattle.frame.specs.Modes.{Row, row}
+use Rattle.scrambler.proofs.Scrambling.{length-descrambled}
+use Rattle.frame.specs.declared.modes.Row.{Row}
+use Rattle.frame.specs.Lane.{laneOctets}
 use Rattle.judge.specs.declared.Released.{Released}
 use Rattle.receiver.specs.declared.Receiver.{Receiver}
 use Rattle.receiver.specs.declared.run.Heard.{Heard}
 use Rattle.judge.specs.Judge.{judged, mended, releasedStatus, trustedAfter}
 use Rattle.receiver.specs.Release.{Release, Step, verdictAt, mendedAt, releaseAt, waitingAt, step, run}
 use Rattle.receiver.specs.Entry.{octetsOut, column, done, laidOut}
-use Rattle.receiver.specs.Turn.{heardAt, Room, Turned}
+use Rattle.receiver.specs.inner.Turn.{heardAt, Room, Turned}
 use Rattle.receiver.proofs.Buffers.{column-more, column-length, octets-more, release-length, octets-length}
 use Rattle.receiver.proofs.Counts.{run-more, run-waits, all-counted, counted}
 use Rattle.receiver.proofs.Cut.{same-step, same-release, heard-from, bits-from}
@@ -31,27 +28,24 @@ use Rattle.receiver.proofs.Cut.{same-step, same-release, heard-from, bi
 -- ---- one turn
 
 -- what the code of a turn computes, put together
-pub turned : (mode : ℕ) (s : Receiver) (lane : List ℕ) (k : ℕ) (o st c p q o′ : List ℕ) (heard : Heard) (r : Released)
+pub turned : (R : Row) (s : Receiver) (lane : List ℕ) (k : ℕ) (o st c p q o′ : List ℕ) (heard : Heard) (r : Released)
     → s .waiting ≡ true
     → 256 ≤ length o
-    → heard ≡ heardAt (row mode) (bitAt lane) 0
-    → r .refusal ≡ pick (ltb (length o) 256) 7 0
-    → r .verdict ≡ judged (row mode) (s .octets) (heard .parity)
+    → heard ≡ heardAt R (bitAt lane) 0
+    → r .verdict ≡ judged (R .sync) (s .octets) (heard .parity)
     → r .status ≡ releasedStatus (r .verdict) (s .trusted)
     → r .history ≡ number (bitAt (mended (r .verdict) (s .octets))) 1990 58
     → r .trusted ≡ trustedAfter (r .verdict)
-    → o′ ≡ written (r .refusal) (descrambled (mended (r .verdict) (s .octets)) (s .history) 256) o
-    → Turned (step (row mode) (bitAt lane) 0 s .state) (releaseAt (row mode) (bitAt lane) 0 s) k
+    → o′ ≡ laidAt (descrambled (mended (r .verdict) (s .octets)) (s .history) 256) 0 o
+    → Turned (step R (bitAt lane) 0 s .state) (releaseAt R (bitAt lane) 0 s) k
     (record { waiting = true; octets = heard .octets; history = r .history; trusted = r .trusted; command = heard .command })
     o st c p q o′ (set st k (r .status)) (set c k (s .command)) (set p k (r .verdict .place)) (set q k (r .verdict .pattern))
 unfolding step waitingAt releaseAt mendedAt verdictAt heardAt
-turned mode s lane k o st c p q o′ heard r w room eh er ev em ey et eo =
-    let R = row mode in
-    let own : r .verdict ≡ verdictAt R (bitAt lane) 0 s = ev ∙ ap (λ (h : Heard). judged R (s .octets) (h .parity)) eh in
-    let none : r .refusal ≡ 0 = er ∙ ap (λ (t : Bool). pick t 7 0) (le-ltb (length o) 256 room) in
+turned R s lane k o st c p q o′ heard r w room eh ev em ey et eo =
+    let own : r .verdict ≡ verdictAt R (bitAt lane) 0 s = ev ∙ ap (λ (h : Heard). judged (R .sync) (s .octets) (h .parity)) eh in
     record {
       state = rw (w, eh, ey, et, own);
-      octets = eo ∙ answered (r .refusal) _ o none ∙ rw own;
+      octets = eo ∙ laid-start _ o (omega (arith, length-descrambled (mended (r .verdict) (s .octets)) (s .history) 256)) ∙ rw own;
       statuses = rw (em, own);
       commands = refl;
       places = rw own;
@@ -102,21 +96,20 @@ list-more f out r k old was now l h e e′ =
     ∙ laid-set (column f out) old (f r) (omega arith)
     ∙ ap (λ (x : List ℕ). laid x old) (sym (column-more f out r))
 
-module _ (mode : ℕ) (lane : List ℕ) (start : Receiver) (k n : ℕ) (s : Receiver) (o₀ st₀ c₀ p₀ q₀ o st c p q : List ℕ) (w : start .waiting ≡ true) (less : k < n)
-    (room : Room n (length o₀) (length st₀) (length c₀) (length p₀) (length q₀)) (h : Held (row mode) (bitAt lane) start k s o₀ st₀ c₀ p₀ q₀ o st c p q) where
+module _ (R : Row) (lane : List ℕ) (start : Receiver) (k n : ℕ) (s : Receiver) (o₀ st₀ c₀ p₀ q₀ o st c p q : List ℕ) (w : start .waiting ≡ true) (less : k < n)
+    (room : Room n (length o₀) (length st₀) (length c₀) (length p₀) (length q₀)) (h : Held R (bitAt lane) start k s o₀ st₀ c₀ p₀ q₀ o st c p q) where
   pub still-waits : s .waiting ≡ true
-  still-waits = ap (λ (x : Receiver). x .waiting) (h .state) ∙ run-waits (row mode) (bitAt lane) start k w
+  still-waits = ap (λ (x : Receiver). x .waiting) (h .state) ∙ run-waits R (bitAt lane) start k w
 
-  pub held-more : (rest : List ℕ) (r : Receiver) (part st′ c′ p′ q′ : List ℕ) → rest ≡ drop (264 * k) lane → length part ≡ length (midOf (256 * k) (length o - 256 * k) o)
-      → Turned (step (row mode) (bitAt rest) 0 s .state) (releaseAt (row mode) (bitAt rest) 0 s) k r (midOf (256 * k) (length o - 256 * k) o) st c p q part st′ c′ p′ q′
-      → Held (row mode) (bitAt lane) start (k + 1) r o₀ st₀ c₀ p₀ q₀ (putMid (256 * k) (length o - 256 * k) o part) st′ c′ p′ q′
+  pub held-more : (rest : List ℕ) (r : Receiver) (part st′ c′ p′ q′ : List ℕ) → rest ≡ drop (laneOctets (R .gap) * k) lane → length part ≡ length (midOf (256 * k) (length o - 256 * k) o)
+      → Turned (step R (bitAt rest) 0 s .state) (releaseAt R (bitAt rest) 0 s) k r (midOf (256 * k) (length o - 256 * k) o) st c p q part st′ c′ p′ q′
+      → Held R (bitAt lane) start (k + 1) r o₀ st₀ c₀ p₀ q₀ (putMid (256 * k) (length o - 256 * k) o part) st′ c′ p′ q′
   held-more rest r part st′ c′ p′ q′ er lp t =
-      let R = row mode in
       let f = bitAt lane in
       let was = run R f start k in
       let out = releaseAt R f k (was .state) in
       let heard : heardAt R (bitAt rest) 0 ≡ heardAt R f k =
-      ap (λ (x : List ℕ). heardAt R (bitAt x) 0) er ∙ ap (λ (g : ℕ → ℕ). heardAt R g 0) (bits-from mode lane k) ∙ sym (heard-from R f k 0) ∙ ap (heardAt R f) (omega arith) in
+      ap (λ (x : List ℕ). heardAt R (bitAt x) 0) er ∙ ap (λ (g : ℕ → ℕ). heardAt R g 0) (bits-from (R .gap) lane k) ∙ sym (heard-from R f k 0) ∙ ap (heardAt R f) (omega arith) in
       let is : releaseAt R (bitAt rest) 0 s ≡ out = ap (releaseAt R (bitAt rest) 0) (h .state) ∙ same-release R (was .state) (bitAt rest) 0 f k heard in
       let next : step R (bitAt rest) 0 s ≡ step R f k (was .state) = ap (step R (bitAt rest) 0) (h .state) ∙ same-step R (was .state) (bitAt rest) 0 f k heard in
       let more = run-more R f start k w in

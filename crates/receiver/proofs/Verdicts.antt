@@ -5,7 +5,7 @@ use mathlib.Core.Bool.{Bool, true, false}
 use mathlib.Core.List.{List, List·Memᴰ, List·Memᴰ·append-cases, List·Memᴰ·cases-cons, List·Memᴰ·not-nil}
 use Prim.Native.Nat.{ℕ, zero, suc, _+_, _%_, _≤_}
 use native.Mathlib.Omega.{arith}
-use Rattle.frame.specs.Modes.{Row}
+use Rattle.frame.specs.declared.modes.Row.{Row}
 use Rattle.frame.specs.Lane.{syncBit}
 use Rattle.frame.specs.SyncWord.{readParity}
 use Rattle.judge.specs.declared.Verdict.{Verdict}
@@ -27,10 +27,10 @@ module _ (R : Row) (lane : ℕ → ℕ) where
   release-cases m s = by (s .trusted)
     where
       v : Verdict
-      v = judged R (s .octets) (readParity R (syncBit (R .gap) lane m))
+      v = judged (R .sync) (s .octets) (readParity (R .sync) (syncBit (R .gap) lane m))
 
       j : Judged v
-      j = verdict-cases R (s .octets) (readParity R (syncBit (R .gap) lane m))
+      j = verdict-cases (R .sync) (s .octets) (readParity (R .sync) (syncBit (R .gap) lane m))
 
       by : (t : Bool) → Released (record { octets = releaseAt R lane m s .octets; status = releasedStatus v t; command = s .command; place = v .place; pattern = v .pattern })
       by true = record {

@@ -2,4 +2,4 @@
 pub mod Release
 pub mod Refusal
 pub mod Entry
-pub mod Turn
+pub mod inner

@@ -7,7 +7,7 @@ use lib.ListN.{replicate}
 use Rattle.bits.specs.Choice.{pick}
 use Rattle.bits.specs.Order.{bitAt, number}
 use Rattle.scrambler.specs.Scrambling.{descrambled}
-use Rattle.frame.specs.Modes.{Row}
+use Rattle.frame.specs.declared.modes.Row.{Row}
 use Rattle.frame.specs.Lane.{dataOctets, syncBit, invalidBit}
 use Rattle.frame.specs.SyncWord.{readParity, flaggedCommand}
 use Rattle.judge.specs.declared.Verdict.{Verdict}
@@ -33,7 +33,7 @@ pub record Step : Type 0 where
 module _ (R : Row) (lane : ℕ → ℕ) where
   -- what the sync word of multiblock m tells of the multiblock that waits
   unfoldable pub verdictAt : ℕ → Receiver → Verdict
-  verdictAt m s = judged R (s .octets) (readParity R (syncBit (R .gap) lane m))
+  verdictAt m s = judged (R .sync) (s .octets) (readParity (R .sync) (syncBit (R .gap) lane m))
 
   unfoldable pub mendedAt : ℕ → Receiver → List ℕ
   mendedAt m s = mended (verdictAt m s) (s .octets)
@@ -54,7 +54,7 @@ module _ (R : Row) (lane : ℕ → ℕ) where
     octets = dataOctets (R .gap) lane m;
     history = history;
     trusted = trusted;
-    command = flaggedCommand R (syncBit (R .gap) lane m) (invalidBit (R .gap) lane m);
+    command = flaggedCommand (R .sync) (syncBit (R .gap) lane m) (invalidBit (R .gap) lane m);
   }
 
   -- multiblock m is received: the one that waits, if there is one, is released; the next history is its last 58 bits, mended

@@ -6,6 +6,8 @@ ghost use Rattle.receiver.specs.Entry.{done, entry};
 mod refusal;
 mod run;
 
+use frame::modes;
+
 // What a receiver carries from one call to the next: whether a multiblock waits, its 256 scrambled octets, the history before it, whether
 // that is trusted, and its command.
 pub struct Receiver {
@@ -52,8 +54,12 @@ pub fn receive(
     ensures { λ r. ⌜ done r (now (octets .exit)) (now (statuses .exit)) (now (commands .exit)) (now (places .exit)) (now (patterns .exit))
         ≡ entry mode state (now (lane .entry)) (now (octets .entry)) (now (statuses .entry)) (now (commands .entry)) (now (places .entry)) (now (patterns .entry)) ⌝ }
 {
+    let row = modes::row_of(mode);
+    let numbers = modes::numbers_of(row);
     let refusal = refusal::refusal_of(
         mode,
+        row.most,
+        numbers,
         state,
         lane.len(),
         octets.len(),
@@ -69,13 +75,17 @@ pub fn receive(
             state,
         };
     }
-    let begun = run::begin(mode, state, lane);
+    let size = numbers.octets;
+    let begun = run::begin(row, size, state, lane);
     let first = begun.state;
+    let n = lane.len() / size - begun.taken;
+    let from = size * begun.taken;
     run::run(
-        mode,
+        row,
+        size,
         first,
-        &lane[264 * begun.taken..],
-        lane.len() / 264 - begun.taken,
+        &lane[from..],
+        n,
         octets,
         statuses,
         commands,

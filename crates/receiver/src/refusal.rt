@@ -1,10 +1,11 @@
 // What is refused, lowest number first: document 01, "Numbers of refusal".
 ghost use mathlib.Core.Path.{_≡_};
 ghost use Prim.Native.Nat.{_≤_};
-ghost use Rattle.frame.specs.Modes.{row};
-ghost use Rattle.receiver.specs.Refusal.{commandBound, allZero, stateFits, releases, refusalOf};
-ghost use Rattle.receiver.specs.Turn.{asFresh, roomFor};
+ghost use Rattle.frame.specs.Modes.{row, numbersOf, flaggedBound, mostOfAll};
+ghost use Rattle.receiver.specs.Refusal.{allZero, asFresh, stateFits, releases, roomFor, refusalOf};
 use crate::Receiver;
+use frame::modes;
+use frame::modes::Numbers;
 
 fn all_zero(octets: &[u8]) -> bool
     ensures { λ r. ⌜ r ≡ allZero (now (octets .entry)) ⌝ }
@@ -34,20 +35,15 @@ fn as_fresh(state: Receiver) -> bool
     all_zero(&octets[..])
 }
 
-// Seven bits and a flag in mode 0, and no command in FEC mode.
-fn command_bound(mode: u8) -> u32
-    ensures { λ r. ⌜ r ≡ commandBound (row mode) ⌝ }
-{
-    if mode == 1 { 1 } else { 256 }
-}
-
-fn state_fits(mode: u8, state: Receiver) -> bool
-    ensures { λ r. ⌜ r ≡ stateFits (row mode) state ⌝ }
+// Whether each field of a state is in its range, where commands with their flag are below a bound.
+fn state_fits(mode: u8, flagged: u32, state: Receiver) -> bool
+    requires { ⌜ flagged ≡ flaggedBound (row mode .sync) ⌝ }
+    ensures { λ r. ⌜ r ≡ stateFits (row mode .sync) state ⌝ }
 {
     if state.history >= 0x400_0000_0000_0000 {
         return false;
     }
-    if state.command >= command_bound(mode) {
+    if state.command >= flagged {
         return false;
     }
     if state.waiting {
@@ -78,7 +74,7 @@ fn room_for(
     places: usize,
     patterns: usize,
 ) -> bool
-    requires { ⌜ k ≤ 240 ⌝ }
+    requires { ⌜ k ≤ mostOfAll ⌝ }
     ensures { λ r. ⌜ r ≡ roomFor k octets statuses commands places patterns ⌝ }
 {
     if 256 * k > octets {
@@ -102,6 +98,8 @@ fn room_for(
 // The lowest number that applies, or 0, by the state and the lengths of the lane and of the lent buffers.
 pub(crate) fn refusal_of(
     mode: u8,
+    most: usize,
+    numbers: Numbers,
     state: Receiver,
     lane: usize,
     octets: usize,
@@ -110,19 +108,21 @@ pub(crate) fn refusal_of(
     places: usize,
     patterns: usize,
 ) -> u8
+    requires { ⌜ (most ≡ row mode .most) × (numbers ≡ numbersOf (row mode)) ⌝ }
     ensures { λ r. ⌜ r ≡ refusalOf mode state lane octets statuses commands places patterns ⌝ }
 {
-    if mode > 1 {
+    if !modes::known(mode) {
         return 1;
     }
-    if !state_fits(mode, state) {
+    if !state_fits(mode, numbers.flagged, state) {
         return 3;
     }
-    if lane % 264 != 0 {
+    let size = numbers.octets;
+    if lane % size != 0 {
         return 4;
     }
-    let n = lane / 264;
-    if n > 240 {
+    let n = lane / size;
+    if n > most {
         return 5;
     }
     let k = releases(state.waiting, n);

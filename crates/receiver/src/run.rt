@@ -4,12 +4,14 @@ ghost use mathlib.Core.Bool.{true};
 ghost use Prim.Native.Nat.{_*_, _<_, _≤_};
 ghost use lib.ListN.{length};
 ghost use Rattle.bits.specs.Order.{bitAt};
-ghost use Rattle.frame.specs.Modes.{row};
+ghost use Rattle.frame.specs.Modes.{mostOfAll};
+ghost use Rattle.frame.specs.Lane.{laneOctets};
 ghost use Rattle.receiver.specs.Release.{releaseAt, step, run};
 ghost use Rattle.receiver.specs.Entry.{done, laidOut};
-ghost use Rattle.receiver.specs.Turn.{heardAt, begunBy, Turned, Room};
+ghost use Rattle.receiver.specs.inner.Turn.{heardAt, begunBy, Turned, Room};
 use crate::Received;
 use crate::Receiver;
+use frame::modes::Row;
 use frame::sync;
 
 // What a multiblock tells: its data octets as they came, the parity of the one before it, and its command.
@@ -19,14 +21,15 @@ pub(crate) struct Heard {
     command: u32,
 }
 
-fn hear(mode: u8, lane: &[u8]) -> Heard
-    requires { ⌜ 264 ≤ length (now lane) ⌝ }
-    ensures { λ r. ⌜ r ≡ heardAt (row mode) (bitAt (now (lane .entry))) 0 ⌝ }
+fn hear(row: Row, lane: &[u8]) -> Heard
+    requires { ⌜ row .gap ≡ 0 ⌝ }
+    ensures { λ r. ⌜ r ≡ heardAt row (bitAt (now (lane .entry))) 0 ⌝ }
 {
-    let mut octets = [0u8; 256];
-    let headers = multiblock::read(lane, &mut octets[..]);
-    let parity = sync::parity(mode, headers.bits);
-    let command = sync::command(mode, headers.bits, headers.invalid);
+    let read = multiblock::read(lane);
+    let octets = read.octets;
+    let kind = row.sync;
+    let parity = sync::parity(kind, read.bits);
+    let command = sync::command(kind, read.bits, read.invalid);
     Heard {
         octets,
         parity,
@@ -41,17 +44,18 @@ pub(crate) struct Begun {
 }
 
 // Where none waits, the first multiblock does, if there is one. Nothing came before it.
-pub(crate) fn begin(mode: u8, state: Receiver, lane: &[u8]) -> Begun
-    ensures { λ r. ⌜ r ≡ begunBy (row mode) state (now (lane .entry)) ⌝ }
-    ensures { λ r. ⌜ 264 * r .taken ≤ length (now (lane .entry)) ⌝ }
+pub(crate) fn begin(row: Row, size: usize, state: Receiver, lane: &[u8]) -> Begun
+    requires { ⌜ (row .gap ≡ 0) × (size ≡ laneOctets (row .gap)) ⌝ }
+    ensures { λ r. ⌜ r ≡ begunBy row state (now (lane .entry)) ⌝ }
+    ensures { λ r. ⌜ (r .taken ≤ 1) × (size * r .taken ≤ length (now (lane .entry))) ⌝ }
 {
     if state.waiting {
         return Begun { state, taken: 0 };
     }
-    if lane.len() < 264 {
+    if lane.len() < size {
         return Begun { state, taken: 0 };
     }
-    let heard = hear(mode, lane);
+    let heard = hear(row, lane);
     let octets = heard.octets;
     let first = Receiver {
         waiting: true,
@@ -68,7 +72,7 @@ pub(crate) fn begin(mode: u8, state: Receiver, lane: &[u8]) -> Begun
 
 // The multiblock at the start of `lane` is received, and the one that waits is released as number k: its octets to the start of `octets`.
 fn release(
-    mode: u8,
+    row: Row,
     state: Receiver,
     lane: &[u8],
     k: usize,
@@ -78,16 +82,17 @@ fn release(
     places: &mut [u16],
     patterns: &mut [u16],
 ) -> Receiver
-    requires { ⌜ (state .waiting ≡ true) × (264 ≤ length (now lane)) × (256 ≤ length (now octets)) ⌝ }
-    requires { ⌜ (k < 240) × (k < length (now statuses)) × (k < length (now commands)) × (k < length (now places)) × (k < length (now patterns)) ⌝ }
-    ensures { λ r. ⌜ Turned (step (row mode) (bitAt (now (lane .entry))) 0 state .state) (releaseAt (row mode) (bitAt (now (lane .entry))) 0 state) k r
+    requires { ⌜ (row .gap ≡ 0) × (state .waiting ≡ true) × (256 ≤ length (now octets)) ⌝ }
+    requires { ⌜ (k < mostOfAll) × (k < length (now statuses)) × (k < length (now commands)) × (k < length (now places)) × (k < length (now patterns)) ⌝ }
+    ensures { λ r. ⌜ Turned (step row (bitAt (now (lane .entry))) 0 state .state) (releaseAt row (bitAt (now (lane .entry))) 0 state) k r
         (now (octets .entry)) (now (statuses .entry)) (now (commands .entry)) (now (places .entry)) (now (patterns .entry))
         (now (octets .exit)) (now (statuses .exit)) (now (commands .exit)) (now (places .exit)) (now (patterns .exit)) ⌝ }
 {
-    let heard = hear(mode, lane);
+    let heard = hear(row, lane);
     let own = state.octets;
+    let kind = row.sync;
     let released = judge::release(
-        mode,
+        kind,
         own,
         state.history,
         state.trusted,
@@ -111,7 +116,8 @@ fn release(
 
 // The n multiblocks of `lane` are received, from a state with one waiting, if there are any. Each releases one.
 pub(crate) fn run(
-    mode: u8,
+    row: Row,
+    size: usize,
     start: Receiver,
     lane: &[u8],
     n: usize,
@@ -121,18 +127,20 @@ pub(crate) fn run(
     places: &mut [u16],
     patterns: &mut [u16],
 ) -> Received
-    requires { ⌜ (0 < n → start .waiting ≡ true) × (264 * n ≤ length (now lane)) × (n ≤ 240) ⌝ }
+    requires { ⌜ (row .gap ≡ 0) × (size ≡ laneOctets (row .gap)) ⌝ }
+    requires { ⌜ (0 < n → start .waiting ≡ true) × (size * n ≤ length (now lane)) × (n ≤ mostOfAll) ⌝ }
     requires { ⌜ Room n (length (now octets)) (length (now statuses)) (length (now commands)) (length (now places)) (length (now patterns)) ⌝ }
     ensures { λ r. ⌜ done r (now (octets .exit)) (now (statuses .exit)) (now (commands .exit)) (now (places .exit)) (now (patterns .exit))
-        ≡ laidOut (run (row mode) (bitAt (now (lane .entry))) start n)
+        ≡ laidOut (run row (bitAt (now (lane .entry))) start n)
         (now (octets .entry)) (now (statuses .entry)) (now (commands .entry)) (now (places .entry)) (now (patterns .entry)) ⌝ }
 {
     let mut state = start;
     for k in 0..n {
+        let at = size * k;
         let next = release(
-            mode,
+            row,
             state,
-            &lane[264 * k..],
+            &lane[at..],
             k,
             &mut octets[256 * k..],
             statuses,

@@ -9,7 +9,8 @@ use Rattle.bits.specs.Choice.{pick, bitOf}
 use Rattle.bits.specs.Order.{bitAt}
 use Rattle.scrambler.specs.Scrambling.{scrambled, historyAfter}
 use Rattle.parity.specs.Codeword.{parityOf}
-use Rattle.frame.specs.Modes.{Row}
+use Rattle.frame.specs.declared.modes.Row.{Row}
+use Rattle.frame.specs.Modes.{code}
 use Rattle.frame.specs.Lane.{multiblock}
 use Rattle.frame.specs.SyncWord.{syncWord}
 use Rattle.sender.specs.declared.Sender.{Sender}
@@ -24,13 +25,13 @@ last E s = eqb (s .number + 1) E
 
 -- the multiblock sent for 256 user octets: its sync word carries the parity of the one before
 unfoldable pub sentOne : Row → ℕ → Sender → List ℕ → ℕ → List ℕ
-sentOne R E s user command = multiblock (R .gap) (syncWord R (s .parity) command (bitOf (last E s))) (scrambled user (s .history) 256)
+sentOne R E s user command = multiblock (R .gap) (syncWord (R .sync) (s .parity) command (bitOf (last E s))) (scrambled user (s .history) 256)
 
 -- the state after it
 unfoldable pub afterOne : Row → ℕ → Sender → List ℕ → Sender
 afterOne R E s user = record {
   history = historyAfter (bitAt user) (s .history) 2048;
-  parity = parityOf (R .code) (scrambled user (s .history) 256);
+  parity = parityOf (code (R .sync)) (scrambled user (s .history) 256);
   number = pick (last E s) 0 (s .number + 1);
 }
 

@@ -6,6 +6,8 @@ ghost use Rattle.sender.specs.Entry.{done, entry};
 mod refusal;
 mod run;
 
+use frame::modes;
+
 // What a sender carries from one call to the next: the last 58 bits sent, the parity of the last multiblock, and the number of the next
 // multiblock in its extended multiblock.
 #[repr(C)]
@@ -39,7 +41,9 @@ impl Sender {
 pub fn send(mode: u8, e: u32, state: Sender, user: &[u8], commands: &[u32], lane: &mut [u8]) -> Sent
     ensures { λ r. ⌜ done r (now (lane .exit)) ≡ entry mode e state (now (user .entry)) (now (commands .entry)) (now (lane .entry)) ⌝ }
 {
-    let refusal = refusal::refusal_of(mode, e, state, user, commands, lane);
+    let row = modes::row_of(mode);
+    let numbers = modes::numbers_of(row);
+    let refusal = refusal::refusal_of(mode, row.most, numbers, e, state, user, commands, lane);
     if refusal != 0 {
         return Sent {
             refusal,
@@ -47,7 +51,7 @@ pub fn send(mode: u8, e: u32, state: Sender, user: &[u8], commands: &[u32], lane
             state,
         };
     }
-    let after = run::send_all(mode, e, state, user, commands, lane);
+    let after = run::send_all(row, numbers.octets, e, state, user, commands, lane);
     Sent {
         refusal: 0,
         count: commands.len(),

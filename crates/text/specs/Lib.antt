@@ -1,3 +1,4 @@
 -- Numbers and lines as text, and the text of a listing.
 pub mod Text
 pub mod Writing
+pub mod inner

@@ -1,9 +1,13 @@
--- Text as octets: decimal numbers without leading zeros, and lines. Document 01, "Capture and listing". Assumes nothing.
+-- A listing as octets: decimal numbers without leading zeros, and lines. Document 01, "Capture and listing". Assumes nothing.
 use mathlib.Core.Bool.{Bool, true, false}
 use mathlib.Core.List.{List, [], _∷_, _++_}
 use Prim.Native.Nat.{ℕ, zero, suc, _+_, _/_, _%_}
-use lib.Dec.{ltb, eqb}
+use lib.Dec.{ltb}
+use lib.ListN.{length, getD}
 use Rattle.bits.specs.Choice.{pick}
+use Rattle.frame.specs.declared.modes.Sync.{Sync}
+use Rattle.frame.specs.declared.modes.Sync.the-variants.{Crc12, Fec}
+use Rattle.frame.specs.declared.modes.Row.{Row}
 
 -- the decimal digits of n, of which there are at most so many
 unfoldable pub digitsOf : ℕ → ℕ → List ℕ
@@ -22,13 +26,26 @@ abbrev pub ended : ℕ → List ℕ
 ended n = decimal n ++ (10 ∷ [])
 
 -- "crc12 " or "fec "
-unfoldable pub nameOf : ℕ → List ℕ
-nameOf mode = pick (eqb mode 1) (102 ∷ 101 ∷ 99 ∷ 32 ∷ []) (99 ∷ 114 ∷ 99 ∷ 49 ∷ 50 ∷ 32 ∷ [])
+abbrev pub syncName : Sync → List ℕ
+syncName Crc12 = 99 ∷ 114 ∷ 99 ∷ 49 ∷ 50 ∷ 32 ∷ []
+syncName Fec = 102 ∷ 101 ∷ 99 ∷ 32 ∷ []
+
+unfoldable pub nameOf : Row → List ℕ
+nameOf R = syncName (R .sync)
 
 -- mode name, E, received, released
-unfoldable pub headLine : ℕ → ℕ → ℕ → ℕ → List ℕ
-headLine mode E received released = nameOf mode ++ (spaced E ++ (spaced received ++ ended released))
+unfoldable pub headLine : Row → ℕ → ℕ → ℕ → List ℕ
+headLine R E received released = nameOf R ++ (spaced E ++ (spaced received ++ ended released))
 
 -- number, status, place, pattern
 unfoldable pub releaseLine : ℕ → ℕ → ℕ → ℕ → List ℕ
 releaseLine k status place pattern = spaced k ++ (spaced status ++ (spaced place ++ ended pattern))
+
+-- the first n lines, from statuses, places and patterns
+unfoldable pub linesOf : ℕ → List ℕ → List ℕ → List ℕ → List ℕ
+linesOf zero s p q = []
+linesOf (suc n) s p q = linesOf n s p q ++ releaseLine n (getD s n 0) (getD p n 0) (getD q n 0)
+
+-- the header line, and a line for each status, place and pattern
+unfoldable pub textOf : Row → ℕ → ℕ → List ℕ → List ℕ → List ℕ → List ℕ
+textOf R E received s p q = headLine R E received (length s) ++ linesOf (length s) s p q

@@ -3,8 +3,11 @@ ghost use mathlib.Core.Path.{_≡_};
 ghost use mathlib.Core.List.{[], _∷_};
 ghost use Prim.Native.Nat.{_+_, _≤_, _<_};
 ghost use lib.ListN.{length};
-ghost use Rattle.text.specs.Text.{decimal, nameOf, headLine, releaseLine};
-ghost use Rattle.text.specs.Writing.{Wrote, field};
+ghost use Rattle.frame.specs.declared.modes.Sync.the-variants.{Crc12, Fec};
+ghost use Rattle.text.specs.Text.{decimal, syncName, nameOf, headLine, releaseLine};
+ghost use Rattle.text.specs.inner.Wrote.{Wrote, field};
+use frame::modes::Row;
+use frame::modes::Sync;
 
 fn digit(n: u32) -> u8
     requires { ⌜ n < 10 ⌝ }
@@ -53,7 +56,7 @@ fn put_field(text: &mut [u8], at: usize, n: u32, end: u8) -> usize
 
 fn put_fec(text: &mut [u8]) -> usize
     requires { ⌜ 4 ≤ length (now text) ⌝ }
-    ensures { λ r. ⌜ Wrote (nameOf 1) 0 (now (text .entry)) r (now (text .exit)) ⌝ }
+    ensures { λ r. ⌜ Wrote (syncName Fec) 0 (now (text .entry)) r (now (text .exit)) ⌝ }
 {
     text[0] = b'f';
     text[1] = b'e';
@@ -64,7 +67,7 @@ fn put_fec(text: &mut [u8]) -> usize
 
 fn put_crc12(text: &mut [u8]) -> usize
     requires { ⌜ 6 ≤ length (now text) ⌝ }
-    ensures { λ r. ⌜ Wrote (nameOf 0) 0 (now (text .entry)) r (now (text .exit)) ⌝ }
+    ensures { λ r. ⌜ Wrote (syncName Crc12) 0 (now (text .entry)) r (now (text .exit)) ⌝ }
 {
     text[0] = b'c';
     text[1] = b'r';
@@ -76,37 +79,42 @@ fn put_crc12(text: &mut [u8]) -> usize
 }
 
 // The name of the mode, and a space.
-fn put_name(text: &mut [u8], mode: u8) -> usize
-    requires { ⌜ length (nameOf mode) ≤ length (now text) ⌝ }
-    ensures { λ r. ⌜ Wrote (nameOf mode) 0 (now (text .entry)) r (now (text .exit)) ⌝ }
+fn put_name(text: &mut [u8], row: Row) -> usize
+    requires { ⌜ length (nameOf row) ≤ length (now text) ⌝ }
+    ensures { λ r. ⌜ Wrote (nameOf row) 0 (now (text .entry)) r (now (text .exit)) ⌝ }
 {
-    if mode == 1 {
-        return put_fec(text);
+    let sync = row.sync;
+    match sync {
+        Sync::Crc12 => put_crc12(text),
+        Sync::Fec => put_fec(text),
     }
-    put_crc12(text)
 }
 
-fn name_width(mode: u8) -> usize
-    ensures { λ r. ⌜ (r ≡ length (nameOf mode)) × (r ≤ 6) ⌝ }
+fn name_width(row: Row) -> usize
+    ensures { λ r. ⌜ (r ≡ length (nameOf row)) × (r ≤ 6) ⌝ }
 {
-    if mode == 1 { 4 } else { 6 }
+    let sync = row.sync;
+    match sync {
+        Sync::Crc12 => 6,
+        Sync::Fec => 4,
+    }
 }
 
 // Mode name, E, received, released.
-pub(crate) fn put_head(text: &mut [u8], mode: u8, e: u32, received: u32, released: u32) -> usize
-    requires { ⌜ length (headLine mode e received released) ≤ length (now text) ⌝ }
-    ensures { λ r. ⌜ Wrote (headLine mode e received released) 0 (now (text .entry)) r (now (text .exit)) ⌝ }
+pub(crate) fn put_head(text: &mut [u8], row: Row, e: u32, received: u32, released: u32) -> usize
+    requires { ⌜ length (headLine row e received released) ≤ length (now text) ⌝ }
+    ensures { λ r. ⌜ Wrote (headLine row e received released) 0 (now (text .entry)) r (now (text .exit)) ⌝ }
 {
-    let name = put_name(text, mode);
+    let name = put_name(text, row);
     let first = put_field(text, name, e, b' ');
     let second = put_field(text, first, received, b' ');
     put_field(text, second, released, b'\n')
 }
 
-pub(crate) fn head_width(mode: u8, e: u32, received: u32, released: u32) -> usize
-    ensures { λ r. ⌜ (r ≡ length (headLine mode e received released)) × (r ≤ 69) ⌝ }
+pub(crate) fn head_width(row: Row, e: u32, received: u32, released: u32) -> usize
+    ensures { λ r. ⌜ (r ≡ length (headLine row e received released)) × (r ≤ 69) ⌝ }
 {
-    name_width(mode) + width(e) + width(received) + width(released) + 3
+    name_width(row) + width(e) + width(received) + width(released) + 3
 }
 
 // Number, status, place, pattern.

@@ -1,46 +1,54 @@
 // The text of a listing, from the lists of what was released: document 01, "Capture and listing".
 ghost use mathlib.Core.Path.{_≡_};
-ghost use Rattle.text.specs.Writing.{done, refusalFor, written};
+ghost use mathlib.Core.Bool.{_&&_};
+ghost use lib.Dec.{eqb};
+ghost use Rattle.text.specs.Writing.{done, written};
+use frame::modes;
+use frame::modes::Row;
 
 mod fields;
 mod lines;
 
 // A refusal, or 0 with the octets of text.
-pub struct Written {
+#[repr(C)]
+pub struct Listed {
     pub refusal: u8,
     pub count: usize,
 }
 
-fn refusal_for(statuses: usize, places: usize, patterns: usize) -> u8
-    ensures { λ r. ⌜ r ≡ refusalFor statuses places patterns ⌝ }
+// Whether there are as many places and patterns as statuses.
+fn alike(statuses: usize, places: usize, patterns: usize) -> bool
+    ensures { λ r. ⌜ r ≡ (eqb places statuses && eqb patterns statuses) ⌝ }
 {
     if places != statuses {
-        return 4;
+        return false;
     }
-    if patterns != statuses {
-        return 4;
-    }
-    if statuses > 240 {
-        return 5;
-    }
-    0
+    patterns == statuses
 }
 
 // The header line and a line for each status, place and pattern, over the start of `text`.
 pub fn write(
     text: &mut [u8],
-    mode: u8,
+    row: Row,
     e: u32,
     received: u32,
     statuses: &[u8],
     places: &[u16],
     patterns: &[u16],
-) -> Written
-    ensures { λ r. ⌜ done r (now (text .exit)) ≡ written mode e received (now (statuses .entry)) (now (places .entry)) (now (patterns .entry)) (now (text .entry)) ⌝ }
+) -> Listed
+    ensures { λ r. ⌜ done r (now (text .exit)) ≡ written row e received (now (statuses .entry)) (now (places .entry)) (now (patterns .entry)) (now (text .entry)) ⌝ }
 {
-    let refusal = refusal_for(statuses.len(), places.len(), patterns.len());
-    if refusal != 0 {
-        return Written { refusal, count: 0 };
+    if !alike(statuses.len(), places.len(), patterns.len()) {
+        return Listed {
+            refusal: 4,
+            count: 0,
+        };
     }
-    lines::put_text(text, mode, e, received, statuses, places, patterns)
+    if statuses.len() > modes::MOST {
+        return Listed {
+            refusal: 5,
+            count: 0,
+        };
+    }
+    lines::put_text(text, row, e, received, statuses, places, patterns)
 }

@@ -1,14 +1,18 @@
 // The lines of a listing, and the whole of its text: document 01, "Capture and listing". It is written where there is room for all of it.
 ghost use mathlib.Core.Path.{_≡_};
-ghost use Prim.Native.Nat.{_+_, _≤_};
+ghost use Prim.Native.Nat.{_+_, _*_, _≤_};
 ghost use lib.ListN.{length};
-ghost use Rattle.text.specs.Writing.{Wrote, done, laidOver, linesOf, textOf};
-use crate::Written;
+ghost use Rattle.frame.specs.Modes.{mostOfAll};
+ghost use Rattle.text.specs.Text.{linesOf, textOf};
+ghost use Rattle.text.specs.Writing.{done, roomOver};
+ghost use Rattle.text.specs.inner.Wrote.{Wrote};
+use crate::Listed;
 use crate::fields;
+use frame::modes::Row;
 
 fn lines_width(released: usize, statuses: &[u8], places: &[u16], patterns: &[u16]) -> usize
-    requires { ⌜ (released ≤ 240) × (released ≤ length (now statuses)) × (released ≤ length (now places)) × (released ≤ length (now patterns)) ⌝ }
-    ensures { λ r. ⌜ (r ≡ length (linesOf released (now (statuses .entry)) (now (places .entry)) (now (patterns .entry)))) × (r ≤ 20160) ⌝ }
+    requires { ⌜ (released ≤ mostOfAll) × (released ≤ length (now statuses)) × (released ≤ length (now places)) × (released ≤ length (now patterns)) ⌝ }
+    ensures { λ r. ⌜ (r ≡ length (linesOf released (now (statuses .entry)) (now (places .entry)) (now (patterns .entry)))) × (r ≤ 84 * mostOfAll) ⌝ }
 {
     let mut total: usize = 0;
     let mut k = 0;
@@ -27,7 +31,7 @@ fn put_lines(
     places: &[u16],
     patterns: &[u16],
 ) -> usize
-    requires { ⌜ (released ≤ 240) × (released ≤ length (now statuses)) × (released ≤ length (now places)) × (released ≤ length (now patterns)) ⌝ }
+    requires { ⌜ (released ≤ mostOfAll) × (released ≤ length (now statuses)) × (released ≤ length (now places)) × (released ≤ length (now patterns)) ⌝ }
     requires { ⌜ start + length (linesOf released (now statuses) (now places) (now patterns)) ≤ length (now text) ⌝ }
     ensures { λ r. ⌜ Wrote (linesOf released (now (statuses .entry)) (now (places .entry)) (now (patterns .entry))) start (now (text .entry)) r (now (text .exit)) ⌝ }
 {
@@ -43,26 +47,26 @@ fn put_lines(
 // The header line and a line for each status, place and pattern, or 7 where there is no room.
 pub(crate) fn put_text(
     text: &mut [u8],
-    mode: u8,
+    row: Row,
     e: u32,
     received: u32,
     statuses: &[u8],
     places: &[u16],
     patterns: &[u16],
-) -> Written
-    requires { ⌜ (length (now statuses) ≤ 240) × (length (now places) ≡ length (now statuses)) × (length (now patterns) ≡ length (now statuses)) ⌝ }
-    ensures { λ r. ⌜ done r (now (text .exit)) ≡ laidOver (textOf mode e received (now (statuses .entry)) (now (places .entry)) (now (patterns .entry))) (now (text .entry)) ⌝ }
+) -> Listed
+    requires { ⌜ (length (now statuses) ≤ mostOfAll) × (length (now places) ≡ length (now statuses)) × (length (now patterns) ≡ length (now statuses)) ⌝ }
+    ensures { λ r. ⌜ done r (now (text .exit)) ≡ roomOver (textOf row e received (now (statuses .entry)) (now (places .entry)) (now (patterns .entry))) (now (text .entry)) ⌝ }
 {
     let released = statuses.len();
-    let head = fields::head_width(mode, e, received, released as u32);
+    let head = fields::head_width(row, e, received, released as u32);
     let lines = lines_width(released, statuses, places, patterns);
     if head + lines > text.len() {
-        return Written {
+        return Listed {
             refusal: 7,
             count: 0,
         };
     }
-    let start = fields::put_head(text, mode, e, received, released as u32);
+    let start = fields::put_head(text, row, e, received, released as u32);
     let count = put_lines(text, start, released, statuses, places, patterns);
-    Written { refusal: 0, count }
+    Listed { refusal: 0, count }
 }

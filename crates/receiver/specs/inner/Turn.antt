@@ -1,43 +1,34 @@
--- What the functions behind the receiver's entry promise to each other. No public promise cites it. Assumes nothing.
+-- What the functions behind the receiver's entry promise to each other. Assumes nothing.
 use mathlib.Core.Path.{_≡_}
-use mathlib.Core.Bool.{Bool, false, not, _&&_}
+use mathlib.Core.Bool.{false}
 use mathlib.Core.List.{List}
 use Prim.Native.Nat.{ℕ, _*_, _≤_}
-use lib.Dec.{ltb, leb, eqb}
+use lib.Dec.{ltb}
 use lib.ListN.{length, set}
 use Rattle.bits.specs.Choice.{pick}
 use Rattle.bits.specs.Order.{bitAt, laid}
-use Rattle.frame.specs.Modes.{Row}
-use Rattle.frame.specs.Lane.{dataOctets, syncBit, invalidBit}
+use Rattle.frame.specs.declared.modes.Row.{Row}
+use Rattle.frame.specs.Lane.{laneOctets, dataOctets, syncBit, invalidBit}
 use Rattle.frame.specs.SyncWord.{readParity, flaggedCommand}
 use Rattle.receiver.specs.declared.Receiver.{Receiver}
 use Rattle.receiver.specs.declared.run.Heard.{Heard}
 use Rattle.receiver.specs.declared.run.Begun.{Begun}
 use Rattle.receiver.specs.Release.{Release, waitingAt}
-use Rattle.receiver.specs.Refusal.{allZero}
 
 -- all that is heard of multiblock m
 unfoldable pub heardAt : Row → (ℕ → ℕ) → ℕ → Heard
 heardAt R lane m = record {
   octets = dataOctets (R .gap) lane m;
-  parity = readParity R (syncBit (R .gap) lane m);
-  command = flaggedCommand R (syncBit (R .gap) lane m) (invalidBit (R .gap) lane m);
+  parity = readParity (R .sync) (syncBit (R .gap) lane m);
+  command = flaggedCommand (R .sync) (syncBit (R .gap) lane m) (invalidBit (R .gap) lane m);
 }
 
 -- the state from which each multiblock received releases one, and how many of the lane's were taken for it
 unfoldable pub begunBy : Row → Receiver → List ℕ → Begun
 begunBy R s lane =
     pick (s .waiting) (record { state = s; taken = 0 })
-    (pick (ltb (length lane) 264) (record { state = s; taken = 0 })
+    (pick (ltb (length lane) (laneOctets (R .gap))) (record { state = s; taken = 0 })
     (record { state = waitingAt R (bitAt lane) 0 0 false; taken = 1 }))
-
--- the two last tests of a state and of the lengths
-unfoldable pub asFresh : Receiver → Bool
-asFresh s = (eqb (s .history) 0 && eqb (s .command) 0) && (not (s .trusted) && allZero (s .octets))
-
-unfoldable pub roomFor : ℕ → ℕ → ℕ → ℕ → ℕ → ℕ → Bool
-roomFor k octets statuses commands places patterns =
-    leb (256 * k) octets && (leb k statuses && (leb k commands && (leb k places && leb k patterns)))
 
 -- buffers of these lengths hold what k releases write
 pub record Room (k octets statuses commands places patterns : ℕ) : Type 0 where
