@@ -2,4 +2,5 @@
 pub mod Damage
 pub mod Calls
 pub mod Transfer
+pub mod Dozen
 pub mod Promises

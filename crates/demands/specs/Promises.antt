@@ -1,47 +1,74 @@
 -- All that is promised of the link as a whole; proofs/Promised.antt holds the proofs, in this order. Assumes nothing.
 use mathlib.Core.Path.{_≡_}
-use mathlib.Core.Bool.{true}
+use mathlib.Core.Bool.{Bool, true, false}
 use mathlib.Core.Logic.{_⊎_}
-use mathlib.Core.List.{List, List·Memᴰ}
+use mathlib.Core.List.{List, [], _∷_, List·Memᴰ}
 use Prim.Native.Nat.{ℕ, _+_, _-_, _*_, _/_, _%_, _≤_, _<_}
 use lib.ListN.{length}
-use Rattle.bits.specs.Order.{bitAt}
-use Rattle.parity.specs.Codeword.{fec, remainderOf}
+use Rattle.bits.specs.Order.{bitAt, listFrom}
+use Rattle.parity.specs.Codeword.{Code, fec, remainderOf}
 use Rattle.parity.specs.Bursts.{BurstSet, IsBurst, flips as burstFlips}
-use Rattle.frame.specs.Modes.{row}
-use Rattle.frame.specs.Lane.{dataPlace, headerAt}
-use Rattle.frame.specs.Dozen.{Case, found, wanted, dozen}
+use Rattle.frame.specs.Modes.{code, repairs, rows, row}
+use Rattle.frame.specs.Lane.{blockWidth, laneOctets, dataPlace, headerAt}
 use Rattle.sender.specs.declared.Sender.{Sender}
 use Rattle.judge.specs.Sound.{sound}
-use Rattle.lock.specs.Run.{ran}
+use Rattle.lock.specs.Run.{stateAfter}
 use Rattle.lock.specs.Stream.{Held}
 use Rattle.demands.specs.Damage.{InBursts, Pairwise}
 use Rattle.demands.specs.Calls.{Sending, AllSent, laneSent}
 use Rattle.demands.specs.Transfer.{Transfer, flips, DamagedBy, Untouched, releases, released, status, given}
+use Rattle.demands.specs.Dozen.{Case, Right, dozen}
 
--- ---- demand 3 with FEC: bursts of at most 9 lane bits, with at least 4,224 clear bits between them
+-- ---- demand 3's bursts, read off the mode's row
+
+-- the bits of the longest burst, and the clear bits between two: those of two multiblocks
+abbrev pub limitOf : ℕ → ℕ
+limitOf mode = code (row mode .sync) .limit
+
+abbrev pub clearOf : ℕ → ℕ
+clearOf mode = 2 * (8 * laneOctets (row mode .gap))
+
+abbrev pub Damaged : {mode E : ℕ} → Transfer mode E → Type 0
+Damaged {mode} t = DamagedBy t (limitOf mode) (clearOf mode)
+
+-- mode by mode: CRC-12, FEC
+abbrev pub Limits : Type 0
+Limits = (listFrom limitOf 0 (length rows) ≡ 12 ∷ 9 ∷ []) × (listFrom clearOf 0 (length rows) ≡ 4224 ∷ 4224 ∷ [])
+
+-- ---- demand 3 with a code that repairs: FEC
 
 -- the octets of every released multiblock after the first equal those sent
 abbrev pub FecDelivers : Type 0
-FecDelivers = (E : ℕ) (t : Transfer 1 E) → DamagedBy t 9 4224 → (i j : ℕ) → 1 ≤ i → i < releases t → j < 256 → released t i j ≡ given t i j
+FecDelivers =
+    (mode E : ℕ) → repairs (row mode .sync) ≡ true → (t : Transfer mode E) → Damaged t
+    → (i j : ℕ) → 1 ≤ i → i < releases t → j < 256 → released t i j ≡ given t i j
 
--- ---- demand 3 with CRC-12: bursts of at most 12 lane bits, with at least 4,224 clear bits between them
+-- ---- demand 3 with a code that only notices: CRC-12
 
 -- every released multiblock whose data bits were hit has status 2 or 6
 abbrev pub CrcTellsHits : Type 0
 CrcTellsHits =
-    (E : ℕ) (t : Transfer 0 E) → DamagedBy t 12 4224 → (i q : ℕ) → i < releases t → q < 2048 → flips t (dataPlace (row 0 .gap) i q) ≡ 1
-    → (status t i ≡ 2) ⊎ (status t i ≡ 6)
-
--- no octet called sound differs from the one sent
-abbrev pub CrcSoundTrue : Type 0
-CrcSoundTrue =
-    (E : ℕ) (t : Transfer 0 E) → DamagedBy t 12 4224 → (i j : ℕ) → i < releases t → j < 256 → sound (status t i) j ≡ true → released t i j ≡ given t i j
+    (mode E : ℕ) → repairs (row mode .sync) ≡ false → (t : Transfer mode E) → Damaged t
+    → (i q : ℕ) → i < releases t → q < 2048 → flips t (dataPlace (row mode .gap) i q) ≡ 1 → (status t i ≡ 2) ⊎ (status t i ≡ 6)
 
 -- a released multiblock other than the first has status 0, so that it is sound throughout, if it and both its neighbours were untouched
 abbrev pub CrcUntouchedSound : Type 0
 CrcUntouchedSound =
-    (E : ℕ) (t : Transfer 0 E) → DamagedBy t 12 4224 → (i : ℕ) → 1 ≤ i → i < releases t → Untouched t (i - 1) (i + 2) → status t i ≡ 0
+    (mode E : ℕ) → repairs (row mode .sync) ≡ false → (t : Transfer mode E) → Damaged t
+    → (i : ℕ) → 1 ≤ i → i < releases t → Untouched t (i - 1) (i + 2) → status t i ≡ 0
+
+-- ---- with either: no octet called sound differs from the one sent
+
+abbrev pub SoundTrue : Bool → Type 0
+SoundTrue repaired =
+    (mode E : ℕ) → repairs (row mode .sync) ≡ repaired → (t : Transfer mode E) → Damaged t
+    → (i j : ℕ) → i < releases t → j < 256 → sound (status t i) j ≡ true → released t i j ≡ given t i j
+
+abbrev pub FecSoundTrue : Type 0
+FecSoundTrue = SoundTrue true
+
+abbrev pub CrcSoundTrue : Type 0
+CrcSoundTrue = SoundTrue false
 
 -- ---- the premise by bursts and by pairs says the same, where two bursts are no longer than the clear bits
 
@@ -50,14 +77,17 @@ BurstsByPairs =
     (limit clear n : ℕ) (f : ℕ → ℕ) → ((x : ℕ) → f x < 2) → 1 ≤ limit → 2 * limit ≤ clear
     → (InBursts limit clear n f → Pairwise limit clear n f) × (Pairwise limit clear n f → InBursts limit clear n f)
 
--- ---- no two bursts of at most 9 bits within 2,074 positions have the same remainder: by place and pattern, and as sets of positions
+-- ---- no two bursts that FEC is used for have the same remainder: by place and pattern, and as sets of positions
 
 abbrev pub OneBurst : Type 0
 OneBurst =
-    (p q s t : ℕ) → IsBurst 9 2074 p q → IsBurst 9 2074 s t → remainderOf fec (burstFlips p q) ≡ remainderOf fec (burstFlips s t) → (p ≡ s) × (q ≡ t)
+    (p q s t : ℕ) → IsBurst (fec .limit) (fec .positions) p q → IsBurst (fec .limit) (fec .positions) s t
+    → remainderOf fec (burstFlips p q) ≡ remainderOf fec (burstFlips s t) → (p ≡ s) × (q ≡ t)
 
 abbrev pub OneSet : Type 0
-OneSet = (f h : ℕ → ℕ) → BurstSet 9 2074 f → BurstSet 9 2074 h → remainderOf fec f ≡ remainderOf fec h → (p : ℕ) → f p ≡ h p
+OneSet =
+    (f h : ℕ → ℕ) → BurstSet (fec .limit) (fec .positions) f → BurstSet (fec .limit) (fec .positions) h
+    → remainderOf fec f ≡ remainderOf fec h → (p : ℕ) → f p ≡ h p
 
 -- ---- the locks
 
@@ -69,10 +99,11 @@ headersFrom lane p x = headerAt (row 0 .gap) (bitAt lane) ((p + x) / 32) ((p + x
 -- and at every block after, as far as the lane goes
 abbrev pub LocksInTime : Type 0
 LocksInTime =
-    (E : ℕ) (s : Sender) (calls : List Sending) → AllSent 0 E s calls → (p n : ℕ) → 66 * (p + n) ≤ 8 * length (laneSent 0 E s calls) → 95 + 128 * E ≤ n
-    → Held (ran 0 E (headersFrom (laneSent 0 E s calls) p) n)
+    (E : ℕ) (s : Sender) (calls : List Sending) → AllSent 0 E s calls
+    → (p n : ℕ) → blockWidth (row 0 .gap) * (p + n) ≤ 8 * length (laneSent 0 E s calls) → 95 + 128 * E ≤ n
+    → Held (stateAfter 0 E (headersFrom (laneSent 0 E s calls) p) n)
 
 -- ---- the dozen
 
 abbrev pub DozenRight : Type 0
-DozenRight = (c : Case) → List·Memᴰ c dozen → found c ≡ wanted c
+DozenRight = (c : Case) → List·Memᴰ c dozen → Right c

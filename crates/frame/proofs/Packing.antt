@@ -9,13 +9,17 @@ use native.Mathlib.Omega.{arith}
 use borrow.Author.Tests.{eq-eqb, ne-eqb}
 use lib.Bits.{bitAnd, bitOr, bitXor, and-mask, or-shifted, xor-lt}
 use lib.Dec.{eqb, lit≤}
+use lib.ListN.{length, getD, take}
 use lib.Pow.{pow-add, high, low, field, mod-pow-add, mod-mod-pow, shl-exact, shl-lt, shl-shr, shr-lt, shr-shr}
 use Rattle.bits.specs.Choice.{pick}
-use Rattle.bits.specs.Order.{bitAt, digit, number, octetsOf}
+use Rattle.bits.specs.Order.{bitAt, digit, number, octetsOf, wordBit, laid}
 use Rattle.bits.proofs.Numbers.{digit-at, number-more, number-two, number-ones, number-split, number-lt, number-low, number-high, number-ext, number-and, number-xor, digit-number, number-digit}
+use Rattle.bits.proofs.Octets.{length-octetsOf, bit-octetsOf, bit-take}
+use Rattle.bits.proofs.Laid.{laid-all}
+use Rattle.bits.proofs.WordLists.{wordBit-lt, number-word}
 use Rattle.frame.specs.Headers.{value, carries, invalid, headerOf}
 use Rattle.frame.specs.Lane.{blockWidth, laneOctets, headerPlace, dataPlace, headerAt, syncBit, invalidBit, dataBit, dataOctets, blockBit, multiblockBit, multiblock}
-use Rattle.frame.proofs.Lane.{header-lt, multiblockBit-lt, multiblock-at, block-data}
+use Rattle.frame.proofs.Lane.{header-lt, multiblockBit-lt, multiblock-at, block-data, same-octets, same-sync, same-invalid}
 
 -- a shift left drops what leaves the word, and so do two
 shift-left : (x t : ℕ) → t ≤ 64 → x * 2 ^ t % 2 ^ 64 ≡ x % 2 ^ (64 - t) * 2 ^ t
@@ -144,9 +148,34 @@ module _ (lane : ℕ → ℕ) (bits : (k : ℕ) → lane k < 2) where
         ∙ number-xor valid (λ t. 1) valid-lt (λ t. lit≤ tt) 0 32
         ∙ ap (bitXor (number valid 0 32)) (number-ones 0 32))
 
-pub octets-read : (lane : ℕ → ℕ) (b : ℕ) → b ≡ 32 → octetsOf (dataBit 0 lane 0) (8 * b) ≡ dataOctets 0 lane 0
+-- all 32 blocks laid over 256 octets are the data of the multiblock
+pub octets-read : (lane : ℕ → ℕ) (b : ℕ) (old : List ℕ) {octets : List ℕ} → b ≡ 32 → length old ≡ 256 → octets ≡ laid (octetsOf (dataBit 0 lane 0) (8 * b)) old → octets ≡ dataOctets 0 lane 0
 unfolding dataOctets
-octets-read lane b e = ap (λ (x : ℕ). octetsOf (dataBit 0 lane 0) (8 * x)) e
+octets-read lane b old e long so-far =
+    let all = octetsOf (dataBit 0 lane 0) 256 in
+    so-far ∙ ap (λ (x : ℕ). laid (octetsOf (dataBit 0 lane 0) (8 * x)) old) e ∙ laid-all all old (omega (arith, length-octetsOf (dataBit 0 lane 0) 256))
+
+-- a lane that is cut off behind its first multiblock reads the same
+module _ (lane : List ℕ) where
+  own-bit : (x : ℕ) → x < 8 * 264 → bitAt (take 264 lane) x ≡ bitAt lane x
+  own-bit = bit-take 264 lane
+
+  own-header : (t : ℕ) → t < 32 → headerAt 0 (bitAt (take 264 lane)) 0 t ≡ headerAt 0 (bitAt lane) 0 t
+  unfolding headerAt headerPlace blockWidth
+  own-header t h = ap₂ value (own-bit (66 * (32 * 0 + t)) (omega arith)) (own-bit (66 * (32 * 0 + t) + 1) (omega arith))
+
+  pub own-octets : dataOctets 0 (bitAt (take 264 lane)) 0 ≡ dataOctets 0 (bitAt lane) 0
+  own-octets = same-octets 0 (bitAt (take 264 lane)) (bitAt lane) 0 (λ q h. unfold dataBit dataPlace headerPlace blockWidth in own-bit (66 * (32 * 0 + q / 64) + 2 + q % 64 + 0 * (q % 64 / 8)) (omega arith))
+
+  pub own-sync : number (syncBit 0 (bitAt (take 264 lane)) 0) 0 32 ≡ number (syncBit 0 (bitAt lane) 0) 0 32
+  own-sync =
+      number-ext (syncBit 0 (bitAt (take 264 lane)) 0) (syncBit 0 (bitAt lane) 0) 0 0 32
+      (λ j q. same-sync 0 (bitAt (take 264 lane)) (bitAt lane) 0 (0 + j) (own-header (0 + j) (omega arith)))
+
+  pub own-invalid : number (invalidBit 0 (bitAt (take 264 lane)) 0) 0 32 ≡ number (invalidBit 0 (bitAt lane) 0) 0 32
+  own-invalid =
+      number-ext (invalidBit 0 (bitAt (take 264 lane)) 0) (invalidBit 0 (bitAt lane) 0) 0 0 32
+      (λ j q. same-invalid 0 (bitAt (take 264 lane)) (bitAt lane) 0 (0 + j) (own-header (0 + j) (omega arith)))
 
 -- ---- writing
 
@@ -251,3 +280,12 @@ module _ (sync : ℕ) (octets : List ℕ) where
   pub octets-written : octetsOf (multiblockBit 0 sync octets) (8 * (32 + 1)) ≡ multiblock 0 sync octets
   unfolding multiblock laneOctets blockWidth
   octets-written = refl
+
+  pub length-written : length (multiblock 0 sync octets) ≡ 8 * (32 + 1)
+  length-written = ap length (sym octets-written) ∙ length-octetsOf (multiblockBit 0 sync octets) (8 * (32 + 1))
+
+-- the octets of 32 words have word b where block b takes it
+pub block-given : (words : List ℕ) (b : ℕ) → b < 32 → getD words b 0 < 2 ^ 64 → getD words b 0 ≡ number (bitAt (octetsOf (wordBit words) 256)) (64 * b) 64
+block-given words b h short =
+    sym (number-ext (bitAt (octetsOf (wordBit words) 256)) (wordBit words) (64 * b) (64 * b) 64 (λ j q. bit-octetsOf (wordBit words) (wordBit-lt words) 256 (64 * b + j) (omega arith))
+    ∙ number-word words b short)

@@ -20,28 +20,32 @@ use Rattle.parity.specs.Bursts.{flips}
 use Rattle.parity.specs.Answer.{Explains}
 use Rattle.parity.proofs.Sets.{flips-bit}
 use Rattle.parity.proofs.Answer.{answer-is}
-use Rattle.frame.specs.Modes.{Row}
+use Rattle.frame.specs.declared.modes.Sync.{Sync}
+use Rattle.frame.specs.declared.modes.Sync.the-variants.{Crc12, Fec}
+use Rattle.frame.specs.Modes.{code, repairs}
 use Rattle.judge.specs.declared.Verdict.{Verdict}
 use Rattle.judge.specs.Judge.{agrees, failed, byBurst, verdictOf, judged, mended, releasedStatus, trustedAfter}
 use Rattle.judge.specs.Sound.{sound}
 use Rattle.judge.proofs.Mending.{flips-none}
 
-module _ (R : Row) (octets : List ℕ) (parity : ℕ) where
-  abbrev difference : ℕ
-  difference = bitXor (parityOf (R .code) octets) parity
+-- the difference that a verdict goes by
+abbrev pub difference : Sync → List ℕ → ℕ → ℕ
+difference S octets parity = bitXor (parityOf (code S) octets) parity
 
-  pub judged-sound : difference ≡ 0 → judged R octets parity ≡ agrees
-  unfolding judged verdictOf
-  judged-sound e = rw (eq-eqb difference 0 e)
+pub judged-sound : (S : Sync) (octets : List ℕ) (parity : ℕ) → difference S octets parity ≡ 0 → judged S octets parity ≡ agrees
+unfolding judged verdictOf
+judged-sound S octets parity e = rw (eq-eqb (difference S octets parity) 0 e)
 
-  pub judged-failed : R .repairs ≡ false → difference ≢ 0 → judged R octets parity ≡ failed
-  unfolding judged verdictOf
-  judged-failed r n = rw (ne-eqb difference 0 n, r)
+pub judged-failed : (S : Sync) (octets : List ℕ) (parity : ℕ) → repairs S ≡ false → difference S octets parity ≢ 0 → judged S octets parity ≡ failed
+unfolding judged verdictOf
+judged-failed S octets parity r n = rw (ne-eqb (difference S octets parity) 0 n, r)
 
-  pub judged-burst : (place pattern : ℕ) → R .repairs ≡ true → difference ≢ 0 → Explains difference place pattern
-      → judged R octets parity ≡ record { status = 1; place = place; pattern = pattern }
-  unfolding judged verdictOf
-  judged-burst place pattern r n e = rw (ne-eqb difference 0 n, r, ← answer-is difference (At place pattern) e)
+pub judged-burst : (S : Sync) (octets : List ℕ) (parity place pattern : ℕ) → repairs S ≡ true → difference S octets parity ≢ 0
+    → Explains (code S) (difference S octets parity) place pattern → judged S octets parity ≡ record { status = 1; place = place; pattern = pattern }
+unfolding judged verdictOf
+judged-burst Crc12 octets parity place pattern r n e = absurd (true≢false (sym r))
+judged-burst Fec octets parity place pattern r n e =
+    rw (ne-eqb (difference Fec octets parity) 0 n, ← answer-is (difference Fec octets parity) (At place pattern) e)
 
 pub mended-bit : (v : Verdict) (octets : List ℕ) (k : ℕ) → k < 2048 → bitAt (mended v octets) k ≡ bitXor (bitAt octets k) (flips (v .place) (v .pattern) k)
 unfolding mended

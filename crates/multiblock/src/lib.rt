@@ -2,10 +2,7 @@
 // block i begins 2 * i bits into word i: shifts and masks lay and gather its header and its 64 data bits across octet edges.
 ghost use mathlib.Core.Path.{_≡_};
 ghost use Prim.Native.Nat.{_+_, _-_, _*_, _/_, _%_, _^_, _<_};
-ghost use lib.Dec.{eqb};
-ghost use Rattle.bits.specs.Choice.{pick};
-ghost use Rattle.bits.specs.Order.{bitAt, digit, number, octetsIn};
-ghost use Rattle.bits.specs.Parts.{refusalOf, written};
+ghost use Rattle.bits.specs.Order.{bitAt, digit, number, octetsOf, wordBit, laidAt};
 ghost use Rattle.frame.specs.Headers.{headerOf};
 ghost use Rattle.frame.specs.Lane.{multiblock, dataOctets, syncBit, invalidBit};
 
@@ -31,17 +28,18 @@ fn lane_word(sync: u32, before: u64, own: u64, block: usize) -> u64
     ((before << 1) << (63 - at)) | (header << (62 - at)) | ((own >> 2) >> at)
 }
 
-// A multiblock that carries a sync word and the first 32 words, over the start of `lane`.
-pub fn write(sync: u32, words: &[u64], lane: &mut [u8]) -> u8
-    ensures { λ r. ⌜ r ≡ refusalOf 32 (now (words .entry)) 264 (now (lane .entry)) ⌝ }
-    ensures { λ r. ⌜ now (lane .exit) ≡ written r (multiblock 0 sync (octetsIn (now (words .entry)))) (now (lane .entry)) ⌝ }
+// Octets of a multiblock on the lane: 33 words of 64 bits.
+const OCTETS: usize = 8 * 33;
+
+// A multiblock that carries a sync word and 32 blocks of data, over the start of `lane`; nothing where it does not fit.
+pub fn write(sync: u32, blocks: &[u64; 32], lane: &mut [u8])
+    ensures { λ _. ⌜ now (lane .exit) ≡ laidAt (multiblock 0 sync (octetsOf (wordBit (now (blocks .entry))) 256)) 0 (now (lane .entry)) ⌝ }
 {
-    if words.len() < 32 {
-        return 4;
+    if lane.len() < OCTETS {
+        return;
     }
-    if lane.len() < 264 {
-        return 7;
-    }
+    // Of a slice's elements the proof knows that they are words.
+    let words = &blocks[..];
     let mut before: u64 = 0;
     for block in 0..32usize {
         let own = words[block];
@@ -49,7 +47,6 @@ pub fn write(sync: u32, words: &[u64], lane: &mut [u8]) -> u8
         before = own;
     }
     bits::put_word(lane, 256, before);
-    0
 }
 
 // A block's header, of the word that it begins in.
@@ -68,34 +65,20 @@ fn data_in(word: u64, next: u64, block: usize) -> u64
     ((word << 2) << (2 * block)) | (next >> (62 - 2 * block))
 }
 
-// A refusal, or 0 with the sync bits of the multiblock read and a 1 for each header that was invalid. Position 0 is the highest bit.
-pub struct Headers {
-    pub refusal: u8,
+// A multiblock as it was read: its data octets, its sync bits, and a 1 for each header that was invalid. Position 0 is the highest bit.
+pub struct Multiblock {
+    pub octets: [u8; 256],
     pub bits: u32,
     pub invalid: u32,
 }
 
-// The multiblock at the start of `lane`: its data octets over the start of `octets`, and its headers.
-pub fn read(lane: &[u8], octets: &mut [u8]) -> Headers
-    ensures { λ r. ⌜ r .refusal ≡ refusalOf 264 (now (lane .entry)) 256 (now (octets .entry)) ⌝ }
-    ensures { λ r. ⌜ r .bits ≡ pick (eqb (r .refusal) 0) (number (syncBit 0 (bitAt (now (lane .entry))) 0) 0 32) 0 ⌝ }
-    ensures { λ r. ⌜ r .invalid ≡ pick (eqb (r .refusal) 0) (number (invalidBit 0 (bitAt (now (lane .entry))) 0) 0 32) 0 ⌝ }
-    ensures { λ r. ⌜ now (octets .exit) ≡ written (r .refusal) (dataOctets 0 (bitAt (now (lane .entry))) 0) (now (octets .entry)) ⌝ }
+// The multiblock at the start of `lane`; past the end of the lane bits are 0.
+pub fn read(lane: &[u8]) -> Multiblock
+    ensures { λ r. ⌜ r .octets ≡ dataOctets 0 (bitAt (now (lane .entry))) 0 ⌝ }
+    ensures { λ r. ⌜ r .bits ≡ number (syncBit 0 (bitAt (now (lane .entry))) 0) 0 32 ⌝ }
+    ensures { λ r. ⌜ r .invalid ≡ number (invalidBit 0 (bitAt (now (lane .entry))) 0) 0 32 ⌝ }
 {
-    if lane.len() < 264 {
-        return Headers {
-            refusal: 4,
-            bits: 0,
-            invalid: 0,
-        };
-    }
-    if octets.len() < 256 {
-        return Headers {
-            refusal: 7,
-            bits: 0,
-            invalid: 0,
-        };
-    }
+    let mut octets = [0u8; 256];
     let mut first: u32 = 0;
     let mut second: u32 = 0;
     let mut word = bits::word_at(lane, 0);
@@ -104,12 +87,12 @@ pub fn read(lane: &[u8], octets: &mut [u8]) -> Headers
         let header = header_in(word, block);
         first = (first << 1) | (header >> 1);
         second = (second << 1) | (header & 1);
-        bits::put_word(octets, 8 * block, data_in(word, next, block));
+        bits::put_word(&mut octets[..], 8 * block, data_in(word, next, block));
         word = next;
     }
     let valid = first ^ second;
-    Headers {
-        refusal: 0,
+    Multiblock {
+        octets,
         bits: second & valid,
         invalid: valid ^ 0xffff_ffff,
     }

@@ -1,97 +1,132 @@
--- Every remainder has one answer of the burst search, which is thus a function of the remainder: document 01, "What the receiver releases".
--- No burst makes 0, nor a number past 26 bits. Assumes nothing.
+-- What the burst search finds makes the remainder, and where it finds nothing, nothing does; with FEC that is the only answer, because no two
+-- bursts share a remainder. No burst makes 0, nor a number wider than the parity. Document 01, "What the receiver releases". Assumes nothing.
 use mathlib.Core.Path.{_≡_, refl, sym, ap₂, _∙_, subst}
-use mathlib.Core.Logic.{_⊎_, inl, inr}
-use Prim.Native.Nat.{ℕ, zero, suc, _-_, _%_, _^_, _<_}
-use native.Mathlib.Nat.{not-suc-le-zero}
-use native.Mathlib.Numerals.{add-one}
-use native.Mathlib.Decide.{ℕ-discrete, decLt}
-use borrow.Author.Count.{below-more}
-use lib.Dec.{lit≤}
+use mathlib.Core.Bool.{true, false, true≢false}
+use Prim.Native.Nat.{ℕ, zero, suc, _+_, _-_, _%_, _^_, _≤_, _<_}
+use native.Mathlib.Nat.{zero-add}
+use native.Mathlib.Decide.{decLe}
+use native.Mathlib.Omega.{arith}
+use lib.Dec.{eqb, ltb}
+use borrow.Author.Tests.{eq-eqb, eqb-true, lt-ltb, ltb-true}
+use Rattle.bits.proofs.Choice.{pick-both, parts-true}
 use Rattle.parity.specs.declared.Burst.{Burst}
 use Rattle.parity.specs.declared.Burst.the-variants.{At, Nothing}
-use Rattle.parity.specs.Codeword.{fec, remainderOf}
+use Rattle.parity.specs.Codeword.{Code, fec, remainderOf}
 use Rattle.parity.specs.Bursts.{flips}
-use Rattle.parity.specs.Answer.{Explains, Answer}
+use Rattle.parity.specs.Answer.{Explains, agreesAt, firstPattern, orElse, firstPlace, burstFor}
 use Rattle.parity.proofs.Codeword.{weighed-lt}
-use Rattle.parity.proofs.Bursts.{fec-proper, starts, no-burst-zero, one-burst}
+use Rattle.parity.proofs.Bursts.{Proper, starts, no-burst-zero, one-burst}
 
--- ---- what a found burst is
+-- what is found makes the remainder; where nothing is found, nothing does
+abbrev pub Answer : Code → ℕ → Burst → Type 0
+Answer C s (At place pattern) = Explains C s place pattern
+Answer C s Nothing = (place pattern : ℕ) → Explains C s place pattern → ⊥
 
-pub found-place : {s place pattern : ℕ} → Explains s place pattern → (place < 2074) × (pattern % 2 ≡ 1) × (pattern < 512)
+-- ---- what a burst that makes a remainder is
+
+pub found-place : {C : Code} {s place pattern : ℕ} → Explains C s place pattern → (place < C .positions) × (pattern % 2 ≡ 1) × (pattern < 2 ^ C .limit)
 found-place e = (starts (e .burst), e .burst .odd, e .burst .short)
 
-pub explained-lt : {s place pattern : ℕ} → Explains s place pattern → s < 2 ^ 26
-unfolding remainderOf
-explained-lt {s} {place} {pattern} e =
-    subst (λ (x : ℕ). x < 2 ^ 26) (e .makes) (weighed-lt fec (fec-proper .some) (fec-proper .fits) (flips place pattern) 0 2074)
+module _ (C : Code) (proper : Proper C) where
+  pub explained-lt : {s place pattern : ℕ} → Explains C s place pattern → s < 2 ^ C .width
+  unfolding remainderOf
+  explained-lt {s} {place} {pattern} e =
+      subst (λ (x : ℕ). x < 2 ^ C .width) (e .makes) (weighed-lt C (proper .some) (proper .fits) (flips place pattern) 0 (C .positions))
 
--- ---- at most one answer
+-- ---- the search answers
 
-pub one-answer : (s : ℕ) (a b : Burst) → Answer s a → Answer s b → a ≡ b
+module _ (C : Code) (s : ℕ) where
+  -- the same, of the places and patterns in R alone
+  abbrev Among : (ℕ → ℕ → Type 0) → Burst → Type 0
+  Among R (At place pattern) = Explains C s place pattern
+  Among R Nothing = (place pattern : ℕ) → R place pattern → Explains C s place pattern → ⊥
+
+  -- agreeing is explaining, for patterns that are not too long
+  explains : (place q : ℕ) → q < 2 ^ C .limit → agreesAt C s place q ≡ true → Explains C s place q
+  unfolding agreesAt
+  explains place q short e =
+      let all = parts-true _ (eqb (remainderOf C (flips place q)) s) e in
+      let two = parts-true (eqb (q % 2) 1) (ltb q (2 ^ (C .positions - place))) (all .0) in
+      record {
+        burst = record { odd = eqb-true (q % 2) 1 (two .0); short = short; inside = ltb-true q (2 ^ (C .positions - place)) (two .1) };
+        makes = eqb-true (remainderOf C (flips place q)) s (all .1);
+      }
+
+  agrees : (place q : ℕ) → Explains C s place q → agreesAt C s place q ≡ true
+  unfolding agreesAt
+  agrees place q e =
+      rw (eq-eqb (q % 2) 1 (e .burst .odd), lt-ltb q (2 ^ (C .positions - place)) (e .burst .inside), eq-eqb (remainderOf C (flips place q)) s (e .makes))
+
+  -- from those in R to those in S, of which no others can make s
+  wider : (R S : ℕ → ℕ → Type 0) (b : Burst) → ((place pattern : ℕ) → S place pattern → Explains C s place pattern → R place pattern) → Among R b → Among S b
+  wider R S (At place pattern) f h = h
+  wider R S Nothing f h = λ place pattern r e. h place pattern (f place pattern r e) e
+
+  -- the patterns from q on, at a place
+  abbrev PatternsFrom : ℕ → ℕ → ℕ → ℕ → Type 0
+  PatternsFrom place q p pattern = (p ≡ place) × (q ≤ pattern)
+
+  patterns : (place q n : ℕ) → q + n ≡ 2 ^ C .limit → Among (PatternsFrom place q) (firstPattern C s place q n)
+  unfolding firstPattern
+  patterns place q zero all = λ p pattern r e. absurd (let short : pattern < 2 ^ C .limit = e .burst .short in let l : q ≤ pattern = r .1 in omega arith)
+  patterns place q (suc n) all =
+      pick-both (Among (PatternsFrom place q)) (agreesAt C s place q) (At place q) (firstPattern C s place (suc q) n) (explains place q (omega arith))
+      (λ no-match. wider (PatternsFrom place (suc q)) (PatternsFrom place q) (firstPattern C s place (suc q) n) (later no-match) (patterns place (suc q) n (omega arith)))
+    where
+      later : agreesAt C s place q ≡ false → (p pattern : ℕ) → PatternsFrom place q p pattern → Explains C s p pattern → PatternsFrom place (suc q) p pattern
+      later no-match p pattern r e = (r .0, after (decLe pattern q))
+        where
+          after : Dec (pattern ≤ q) → q < pattern
+          after (no l) = omega arith
+          after (yes l) =
+              let m : q ≤ pattern = r .1 in
+              let same : pattern ≡ q = omega arith in
+              absurd (true≢false (sym (agrees place q (subst (λ (x : ℕ). Explains C s x q) (r .0) (subst (λ (x : ℕ). Explains C s p x) same e))) ∙ no-match))
+
+  -- the places from p on
+  abbrev PlacesFrom : ℕ → ℕ → ℕ → Type 0
+  PlacesFrom p place pattern = p ≤ place
+
+  places : (p n : ℕ) → p + n ≡ C .positions → Among (PlacesFrom p) (firstPlace C s p n)
+  unfolding firstPlace
+  places p zero all = λ place pattern l e. absurd (let inside : place < C .positions = starts (e .burst) in omega arith)
+  places p (suc n) all = here (firstPattern C s p 0 (2 ^ C .limit)) (patterns p 0 (2 ^ C .limit) (zero-add (2 ^ C .limit))) (places (suc p) n (omega arith))
+    where
+      here : (b : Burst) → Among (PatternsFrom p 0) b → Among (PlacesFrom (suc p)) (firstPlace C s (suc p) n) → Among (PlacesFrom p) (orElse b (firstPlace C s (suc p) n))
+      here (At place pattern) h rest = h
+      here Nothing h rest = wider (PlacesFrom (suc p)) (PlacesFrom p) (firstPlace C s (suc p) n) later rest
+        where
+          later : (place pattern : ℕ) → p ≤ place → Explains C s place pattern → p < place
+          later place pattern l e = after (decLe place p)
+            where
+              after : Dec (place ≤ p) → p < place
+              after (no m) = omega arith
+              after (yes m) = absurd (h place pattern (omega arith, omega arith) e)
+
+  pub answers : Answer C s (burstFor C s)
+  unfolding burstFor
+  answers = all (firstPlace C s 0 (C .positions)) (places 0 (C .positions) (zero-add (C .positions)))
+    where
+      all : (b : Burst) → Among (PlacesFrom 0) b → Answer C s b
+      all (At place pattern) h = h
+      all Nothing h = λ place pattern e. h place pattern (omega arith) e
+
+-- ---- and nothing else does
+
+pub one-answer : (s : ℕ) (a b : Burst) → Answer fec s a → Answer fec s b → a ≡ b
 one-answer s (At p q) (At t u) e d =
     let same = one-burst p q t u (e .burst) (d .burst) (e .makes ∙ sym (d .makes)) in ap₂ (λ (x y : ℕ). At x y) (same .0) (same .1)
 one-answer s (At p q) Nothing e d = absurd (d p q e)
 one-answer s Nothing (At t u) e d = absurd (e t u d)
 one-answer s Nothing Nothing e d = refl
 
-pub zero-nothing : (r : Burst) → Answer 0 r → r ≡ Nothing
-zero-nothing (At p q) e = absurd (no-burst-zero fec fec-proper 9 p q (lit≤ tt) (e .burst) (e .makes))
-zero-nothing Nothing e = refl
+pub answer-is : (s : ℕ) (r : Burst) → Answer fec s r → r ≡ burstFor fec s
+answer-is s r a = one-answer s r (burstFor fec s) a (answers fec s)
 
--- ---- and at least one: all places, and at each all patterns, are tried
-
-record Answered (s : ℕ) : Type 0 where
-  answer : Burst
-  holds : Answer s answer
-
-explains? : (s p q : ℕ) → Dec (Explains s p q)
-explains? s p q = go (ℕ-discrete (q % 2) 1) (decLt q (2 ^ 9)) (decLt q (2 ^ (2074 - p))) (ℕ-discrete (remainderOf fec (flips p q)) s)
+-- no burst makes 0
+pub zero-nothing : (C : Code) → Proper C → burstFor C 0 ≡ Nothing
+zero-nothing C proper = none (burstFor C 0) (answers C 0)
   where
-    go : Dec (q % 2 ≡ 1) → Dec (q < 2 ^ 9) → Dec (q < 2 ^ (2074 - p)) → Dec (remainderOf fec (flips p q) ≡ s) → Dec (Explains s p q)
-    go (yes a) (yes b) (yes c) (yes d) = yes (record { burst = record { odd = a; short = b; inside = c }; makes = d })
-    go (no n) b c d = no (λ e. n (e .burst .odd))
-    go (yes a) (no n) c d = no (λ e. n (e .burst .short))
-    go (yes a) (yes b) (no n) d = no (λ e. n (e .burst .inside))
-    go (yes a) (yes b) (yes c) (no n) = no (λ e. n (e .makes))
-
--- a pattern below n at the place p
-pattern-below : (s p n : ℕ) → Answered s ⊎ ((q : ℕ) → q < n → Explains s p q → ⊥)
-pattern-below s p zero = inr (λ q h. absurd (not-suc-le-zero h))
-pattern-below s p (suc n) = go (pattern-below s p n) (explains? s p n)
-  where
-    go : Answered s ⊎ ((q : ℕ) → q < n → Explains s p q → ⊥) → Dec (Explains s p n) → Answered s ⊎ ((q : ℕ) → q < suc n → Explains s p q → ⊥)
-    go (inl a) d = inl a
-    go (inr f) (yes e) = inl (record { answer = At p n; holds = e })
-    go (inr f) (no d) = inr (λ q h. below-more (λ (q : ℕ). Explains s p q → ⊥) n f d q (rw add-one h))
-
--- a place below n
-place-below : (s n : ℕ) → Answered s ⊎ ((p : ℕ) → p < n → (q : ℕ) → Explains s p q → ⊥)
-place-below s zero = inr (λ p h. absurd (not-suc-le-zero h))
-place-below s (suc n) = go (place-below s n) (pattern-below s n 512)
-  where
-    go : Answered s ⊎ ((p : ℕ) → p < n → (q : ℕ) → Explains s p q → ⊥) → Answered s ⊎ ((q : ℕ) → q < 512 → Explains s n q → ⊥)
-        → Answered s ⊎ ((p : ℕ) → p < suc n → (q : ℕ) → Explains s p q → ⊥)
-    go (inl a) d = inl a
-    go (inr f) (inl a) = inl a
-    go (inr f) (inr d) =
-        inr (λ p h. below-more (λ (p : ℕ). (q : ℕ) → Explains s p q → ⊥) n f (λ q e. d q (e .burst .short) e) p (rw add-one h))
-
-answered : (s : ℕ) → Answered s
-answered s = go (place-below s 2074)
-  where
-    go : Answered s ⊎ ((p : ℕ) → p < 2074 → (q : ℕ) → Explains s p q → ⊥) → Answered s
-    go (inl a) = a
-    go (inr f) = record { answer = Nothing; holds = λ p q e. f p (starts (e .burst)) q e }
-
--- ---- the answer as a function, which stays shut outside this file: the two laws say all of it
-
-pub burstFor : ℕ → Burst
-burstFor s = answered s .answer
-
-pub answers : (s : ℕ) → Answer s (burstFor s)
-unfolding burstFor
-answers s = answered s .holds
-
-pub answer-is : (s : ℕ) (r : Burst) → Answer s r → r ≡ burstFor s
-answer-is s r a = one-answer s r (burstFor s) a (answers s)
+    none : (b : Burst) → Answer C 0 b → b ≡ Nothing
+    none (At p q) e = absurd (no-burst-zero C proper (C .limit) p q (proper .reach) (e .burst) (e .makes))
+    none Nothing e = refl

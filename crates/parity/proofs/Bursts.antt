@@ -19,6 +19,7 @@ use Rattle.polynomial.proofs.Polynomial.{half-lt, scale-zero, scale-mod, scale-
 use Rattle.polynomial.proofs.Fire.{trapped}
 use Rattle.parity.specs.Codeword.{Code, crc12, fec, weight, weighed, remainderOf}
 use Rattle.parity.specs.Bursts.{IsBurst, flips}
+use Rattle.parity.proofs.Numbers.{parity-numbers}
 
 -- ---- codes
 
@@ -31,10 +32,10 @@ pub record Proper (C : Code) : Type 0 where
   pub reach : C .limit ≤ C .width
 
 pub crc12-proper : Proper crc12
-crc12-proper = record { some = lit< tt; fits = lit< tt; odd = refl; long = refl; reach = lit≤ tt }
+crc12-proper = record { some = lit< tt; fits = lit< tt; odd = refl; long = parity-numbers .0 .bits; reach = lit≤ tt }
 
 pub fec-proper : Proper fec
-fec-proper = record { some = lit< tt; fits = lit< tt; odd = refl; long = refl; reach = lit≤ tt }
+fec-proper = record { some = lit< tt; fits = lit< tt; odd = refl; long = parity-numbers .1 .bits; reach = lit≤ tt }
 
 -- ---- the positions of a burst
 
@@ -275,7 +276,8 @@ one-burst-from p q s t hq ht l e =
     wide : (r : ℕ) → mirror 9 r < 2 ^ 26
     wide r = lt-of-lt-of-le (mirror-lt 9 r) (lit≤ tt)
 
-pub one-burst : (p q s t : ℕ) → IsBurst 9 2074 p q → IsBurst 9 2074 s t → remainderOf fec (flips p q) ≡ remainderOf fec (flips s t) → (p ≡ s) × (q ≡ t)
+pub one-burst : (p q s t : ℕ) → IsBurst (fec .limit) (fec .positions) p q → IsBurst (fec .limit) (fec .positions) s t
+    → remainderOf fec (flips p q) ≡ remainderOf fec (flips s t) → (p ≡ s) × (q ≡ t)
 one-burst p q s t hq ht e = go (decLe s p)
   where
     go : Dec (s ≤ p) → (p ≡ s) × (q ≡ t)

@@ -1,4 +1,5 @@
 -- Laws of codewords and bursts.
+pub mod Numbers
 pub mod Codeword
 pub mod Bursts
 pub mod Sets

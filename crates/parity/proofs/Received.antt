@@ -1,6 +1,6 @@
 -- What the crates above use of codewords: data bits and then parity bits, whose remainder is what the parity of the octets and the parity
 -- received differ by, and which adds up. Over any code. Assumes nothing.
-use mathlib.Core.Path.{_≡_, refl, sym, ap, ap₂, _∙_}
+use mathlib.Core.Path.{_≡_, sym, ap, _∙_}
 use mathlib.Core.List.{List}
 use Prim.Native.Nat.{ℕ, _+_, _-_, _*_, _/_, _%_, _^_, _≤_, _<_}
 use native.Mathlib.Omega.{arith}

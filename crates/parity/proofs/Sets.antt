@@ -173,10 +173,11 @@ no-set-zero C proper b f narrow set e =
     let t = named b (C .positions) f set in
     no-burst-zero C proper b (t .0) (t .1) narrow (t .2) (remainder-same C (flips (t .0) (t .1)) f (t .3) ∙ e)
 
-pub one-set : (f h : ℕ → ℕ) → BurstSet 9 2074 f → BurstSet 9 2074 h → remainderOf fec f ≡ remainderOf fec h → (p : ℕ) → f p ≡ h p
+pub one-set : (f h : ℕ → ℕ) → BurstSet (fec .limit) (fec .positions) f → BurstSet (fec .limit) (fec .positions) h → remainderOf fec f ≡ remainderOf fec h
+    → (p : ℕ) → f p ≡ h p
 one-set f h sf sh e p =
-    let s = named 9 2074 f sf in
-    let t = named 9 2074 h sh in
+    let s = named (fec .limit) (fec .positions) f sf in
+    let t = named (fec .limit) (fec .positions) h sh in
     let z = one-burst (s .0) (s .1) (t .0) (t .1) (s .2) (t .2)
     (remainder-same fec (flips (s .0) (s .1)) f (s .3) ∙ e ∙ sym (remainder-same fec (flips (t .0) (t .1)) h (t .3))) in
     sym (s .3 p) ∙ ap₂ (λ (x y : ℕ). flips x y p) (z .0) (z .1) ∙ t .3 p

@@ -102,7 +102,7 @@ top-one n s l h =
     let once : 1 * 2 ^ n ≡ 2 ^ n = one-mul (2 ^ n) in
     ap (λ (x : ℕ). x / 2 ^ n) {x = s} {y = 1 * 2 ^ n + (s - 2 ^ n)} (omega arith) ∙ digits-div 1 (omega arith)
 
-module _ (s place pattern : ℕ) (e : Explains s place pattern) where
+module _ (s place pattern : ℕ) (e : Explains fec s place pattern) where
   -- the pattern turned round is the trap
   pub trap-shows : (trap : ℕ) → trap < 2 ^ 26 → place ≤ 2065 → timesPower 26 0x0220211 (2065 - place) trap ≡ s → trap / 2 ^ 8 ≡ 1
   trap-shows trap h l t =

@@ -23,7 +23,7 @@ crc12 = record { width = 12; lower = 0x30F; positions = 2060; limit = 12 }
 abbrev pub fec : Code
 fec = record { width = 26; lower = 0x0220211; positions = 2074; limit = 9 }
 
--- FEC, or CRC-12
+-- the code that corrects, or the one that only detects
 abbrev pub codeOf : Bool → Code
 codeOf true = fec
 codeOf false = crc12

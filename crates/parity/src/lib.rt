@@ -1,14 +1,14 @@
 // Parity: remainders, weights and bursts. Document 01, "Parity"; clauses 7.4.2 and 7.5.2.
 ghost use mathlib.Core.Path.{_≡_};
-ghost use Rattle.bits.specs.Order.{listFrom, octetsIn};
-ghost use Rattle.parity.specs.Codeword.{Code, crc12, fec, parityOf, weight};
-ghost use Rattle.parity.specs.Answer.{Answer};
+ghost use Rattle.bits.specs.Order.{octetsIn};
+ghost use Rattle.parity.specs.Codeword.{Code, crc12, fec, parityOf};
+ghost use Rattle.parity.specs.Answer.{burstFor};
 
 mod bitwise;
 mod search;
 mod word;
 
-// A burst of at most 9 bits in an FEC codeword: its first position, and its bits from there on, lowest first.
+// A burst in an FEC codeword: its first position, and its bits from there on, lowest first.
 pub enum Burst {
     At(u16, u16),
     Nothing,
@@ -69,19 +69,12 @@ impl Fec {
         word::of_words(true, words)
     }
 
-    // The weights of all positions.
-    pub fn weights() -> [u32; 2074]
-        ensures { λ r. ⌜ r ≡ listFrom (weight fec) 0 2074 ⌝ }
-    {
-        weights::table()
-    }
-
-    // The burst that makes a remainder, if there is one: no two make the same.
+    // The burst of at most LIMIT bits that makes a remainder, if there is one: no two make the same.
     pub fn burst(remainder: u32) -> Burst
-        ensures { λ r. ⌜ Answer remainder r ⌝ }
+        ensures { λ r. ⌜ r ≡ burstFor fec remainder ⌝ }
     {
-        if remainder < 0x400_0000 {
-            let table = Fec::weights();
+        if remainder < 1 << Fec::WIDTH {
+            let table = weights::table();
             search::search(&table, remainder)
         } else {
             Burst::Nothing

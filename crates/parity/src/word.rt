@@ -4,7 +4,11 @@ ghost use Prim.Native.Nat.{_*_, _^_, _<_, _≤_};
 ghost use lib.ListN.{length};
 ghost use Rattle.bits.specs.Order.{bitAt, listFrom, digits, wordBit};
 ghost use Rattle.polynomial.specs.Remainder.{remainderFrom};
-ghost use Rattle.parity.specs.Codeword.{codeOf};
+ghost use Rattle.parity.specs.Codeword.{crc12, fec, codeOf};
+use crate::Fec;
+
+// All FEC parities are below this.
+const FEC_PARITIES: u64 = 1 << Fec::WIDTH;
 
 fn wide(r: u32) -> u64
     ensures { λ s. ⌜ s ≡ r ⌝ }
@@ -15,21 +19,21 @@ fn wide(r: u32) -> u64
 // 64 bits more with FEC, at once. The quotient of the word times x^26 by the polynomial is the word over 1 + u, where u = x^-5 + x^-9 + x^-17 +
 // x^-22 + x^-26: that is the word times (1 + u)(1 + u^2)(1 + u^4)(1 + u^8), since no term from u^16 on reaches into 64 bits.
 fn fec_word(r: u32, word: u64) -> u32
-    requires { ⌜ r < 2 ^ 26 ⌝ }
-    ensures { λ s. ⌜ s ≡ remainderFrom 26 0x0220211 r (digits 64 word) ⌝ }
+    requires { ⌜ r < 2 ^ fec .width ⌝ }
+    ensures { λ s. ⌜ s ≡ remainderFrom (fec .width) (fec .lower) r (digits 64 word) ⌝ }
 {
     let whole = word ^ (wide(r) << 38);
     let q1 = whole ^ (whole >> 5) ^ (whole >> 9) ^ (whole >> 17) ^ (whole >> 22) ^ (whole >> 26);
     let q2 = q1 ^ (q1 >> 10) ^ (q1 >> 18) ^ (q1 >> 34) ^ (q1 >> 44) ^ (q1 >> 52);
     let q4 = q2 ^ (q2 >> 20) ^ (q2 >> 36);
     let q8 = q4 ^ (q4 >> 40);
-    ((q8 ^ (q8 << 4) ^ (q8 << 9) ^ (q8 << 17) ^ (q8 << 21)) % 0x400_0000) as u32
+    ((q8 ^ (q8 << 4) ^ (q8 << 9) ^ (q8 << 17) ^ (q8 << 21)) % FEC_PARITIES) as u32
 }
 
 // 64 bits more with CRC-12, bit by bit, in a register whose upper 12 bits are the remainder.
 fn crc12_word(r: u32, word: u64) -> u32
-    requires { ⌜ r < 2 ^ 12 ⌝ }
-    ensures { λ s. ⌜ s ≡ remainderFrom 12 0x30F r (digits 64 word) ⌝ }
+    requires { ⌜ r < 2 ^ crc12 .width ⌝ }
+    ensures { λ s. ⌜ s ≡ remainderFrom (crc12 .width) (crc12 .lower) r (digits 64 word) ⌝ }
 {
     let mut register = word ^ (wide(r) << 52);
     for _ in 0..64u32 {
@@ -38,11 +42,12 @@ fn crc12_word(r: u32, word: u64) -> u32
     (register >> 52) as u32
 }
 
-fn next_word(fec: bool, r: u32, word: u64) -> u32
-    requires { ⌜ r < 2 ^ codeOf fec .width ⌝ }
-    ensures { λ s. ⌜ s ≡ remainderFrom (codeOf fec .width) (codeOf fec .lower) r (digits 64 word) ⌝ }
+// 64 bits more with FEC, which corrects, or CRC-12, which only detects.
+fn next_word(corrects: bool, r: u32, word: u64) -> u32
+    requires { ⌜ r < 2 ^ codeOf corrects .width ⌝ }
+    ensures { λ s. ⌜ s ≡ remainderFrom (codeOf corrects .width) (codeOf corrects .lower) r (digits 64 word) ⌝ }
 {
-    if fec {
+    if corrects {
         return fec_word(r, word);
     }
     crc12_word(r, word)
@@ -51,7 +56,7 @@ fn next_word(fec: bool, r: u32, word: u64) -> u32
 // The first octets with FEC, a whole number of words. Each code has its own loop over octets, so that the compiler takes it into its caller.
 pub(crate) fn fec_words(octets: &[u8], count: usize) -> u32
     requires { ⌜ 8 * count ≤ length (now octets) ⌝ }
-    ensures { λ s. ⌜ s ≡ remainderFrom 26 0x0220211 0 (listFrom (bitAt (now (octets .entry))) 0 (64 * count)) ⌝ }
+    ensures { λ s. ⌜ s ≡ remainderFrom (fec .width) (fec .lower) 0 (listFrom (bitAt (now (octets .entry))) 0 (64 * count)) ⌝ }
 {
     let mut s: u32 = 0;
     for i in 0..count {
@@ -63,7 +68,7 @@ pub(crate) fn fec_words(octets: &[u8], count: usize) -> u32
 // The same with CRC-12.
 pub(crate) fn crc12_words(octets: &[u8], count: usize) -> u32
     requires { ⌜ 8 * count ≤ length (now octets) ⌝ }
-    ensures { λ s. ⌜ s ≡ remainderFrom 12 0x30F 0 (listFrom (bitAt (now (octets .entry))) 0 (64 * count)) ⌝ }
+    ensures { λ s. ⌜ s ≡ remainderFrom (crc12 .width) (crc12 .lower) 0 (listFrom (bitAt (now (octets .entry))) 0 (64 * count)) ⌝ }
 {
     let mut s: u32 = 0;
     for i in 0..count {
@@ -73,12 +78,12 @@ pub(crate) fn crc12_words(octets: &[u8], count: usize) -> u32
 }
 
 // All of a list of words.
-pub(crate) fn of_words(fec: bool, words: &[u64]) -> u32
-    ensures { λ s. ⌜ s ≡ remainderFrom (codeOf fec .width) (codeOf fec .lower) 0 (listFrom (wordBit (now (words .entry))) 0 (64 * length (now (words .entry)))) ⌝ }
+pub(crate) fn of_words(corrects: bool, words: &[u64]) -> u32
+    ensures { λ s. ⌜ s ≡ remainderFrom (codeOf corrects .width) (codeOf corrects .lower) 0 (listFrom (wordBit (now (words .entry))) 0 (64 * length (now (words .entry)))) ⌝ }
 {
     let mut s: u32 = 0;
     for i in 0..words.len() {
-        s = next_word(fec, s, words[i]);
+        s = next_word(corrects, s, words[i]);
     }
     s
 }

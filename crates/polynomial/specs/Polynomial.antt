@@ -20,3 +20,14 @@ timesPower w g (suc n) r = timesX w g (timesPower w g n r)
 -- x^n
 abbrev pub power : ℕ → ℕ → ℕ → ℕ
 power w g n = timesPower w g n 1
+
+-- ---- two polynomials multiplied, with no remainder taken
+
+-- a times the n lowest coefficients of b
+unfoldable pub timesLowest : ℕ → ℕ → ℕ → ℕ
+timesLowest a zero b = 0
+timesLowest a (suc n) b = bitXor (scale b a) (timesLowest a n (b / 2) * 2)
+
+-- a times b: all of b, since b is below 2^b
+abbrev pub product : ℕ → ℕ → ℕ
+product a b = timesLowest a b b

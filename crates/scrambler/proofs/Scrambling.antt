@@ -156,13 +156,6 @@ module _ (history : ℕ) (stream : ℕ → ℕ) (bits : (k : ℕ) → stream k <
       ∙ ap (sentBit (stream (a + k))) (come-add history stream a k)
       ∙ sym (plain-come (allCome history stream a) (λ j. stream (a + j)) (λ j. bits (a + j)) k)
 
-  -- the same after the 58 bits before
-  pub plain-next : (a k : ℕ) → 58 ≤ a → plain history stream (a + k) ≡ plain (number stream (a - 58) 58) (λ j. stream (a + j)) k
-  plain-next a k h =
-      plain-add a k
-      ∙ sym (recent-plain (allCome history stream a) (λ j. stream (a + j)) k)
-      ∙ ap (λ (x : ℕ). plain x (λ j. stream (a + j)) k) (ap (λ (x : ℕ). allCome history stream x % 2 ^ 58) {x = a} {y = a - 58 + 58} (omega arith) ∙ come-number history stream bits (a - 58) 58)
-
 -- ---- runs of any user's stream
 
 module _ (user : ℕ → ℕ) where
@@ -296,14 +289,24 @@ pub scrambled-words : (octets : List ℕ) (history n : ℕ) → octetsIn (wordsO
 unfolding scrambled
 scrambled-words octets history n = octetsIn-wordsOf (sent (bitAt octets) history) (sent-lt (bitAt octets) (bitAt-lt octets) history) n
 
+pub scrambled-blocks : (octets : List ℕ) (history n : ℕ) → octetsOf (wordBit (wordsOf (sent (bitAt octets) history) n)) (8 * n) ≡ scrambled octets history (8 * n)
+unfolding scrambled
+scrambled-blocks octets history n =
+    let stream = sent (bitAt octets) history in
+    octetsOf-ext (wordBit (wordsOf stream n)) stream (8 * n) (λ k h. bit-wordsOf stream (sent-lt (bitAt octets) (bitAt-lt octets) history) n k (omega arith))
+
+-- n words laid over as many are all that is left
+pub words-all : (f : ℕ → ℕ) (n i : ℕ) (old : List ℕ) {words : List ℕ} → i ≡ n → length old ≡ n → words ≡ laid (wordsOf f i) old → words ≡ wordsOf f n
+words-all f n i old e long so-far = so-far ∙ ap (λ (x : ℕ). laid (wordsOf f x) old) e ∙ laid-all (wordsOf f n) old (omega (arith, length-wordsOf f n))
+
 -- blocks that hold octets are descrambled to what these are
 pub descrambled-words : (octets : List ℕ) (history n : ℕ) (old : List ℕ) {blocks : List ℕ} → length old ≡ n → blocks ≡ laid (wordsOf (bitAt octets) n) old
     → octetsOf (plain history (wordBit blocks)) (8 * n) ≡ descrambled octets history (8 * n)
 unfolding descrambled
 descrambled-words octets history n old {blocks} long e =
-    let all : blocks ≡ wordsOf (bitAt octets) n = e ∙ laid-all (wordsOf (bitAt octets) n) old (omega (arith, length-wordsOf (bitAt octets) n)) in
     octetsOf-ext (plain history (wordBit blocks)) (plain history (bitAt octets)) (8 * n)
-    (λ k h. plain-ext history (wordBit blocks) (bitAt octets) k (λ j q. ap (λ (x : List ℕ). wordBit x j) all ∙ bit-wordsOf (bitAt octets) (bitAt-lt octets) n j (omega arith)))
+    (λ k h. plain-ext history (wordBit blocks) (bitAt octets) k
+    (λ j q. ap (λ (x : List ℕ). wordBit x j) (words-all (bitAt octets) n n old refl long e) ∙ bit-wordsOf (bitAt octets) (bitAt-lt octets) n j (omega arith)))
 
 -- octets that carry what was sent of a user's octets from octet a on are descrambled to these: all of them after the right history, and
 -- all but the first eight after any

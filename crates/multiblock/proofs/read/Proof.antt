@@ -9,10 +9,9 @@ use lib.ListN.{length}
 use denote.Ref.{now}
 use Rattle.bits.specs.Order.{bitAt, digit, number, octetsOf, laid, laidAt}
 use Rattle.bits.proofs.Numbers.{bitAt-lt, number-none}
-use Rattle.bits.proofs.Laid.{laid-none, laid-word, length-laid-octets}
-use Rattle.bits.proofs.Parts.{few-given, few-lent, not-refused, untouched, answered}
+use Rattle.bits.proofs.Laid.{laid-none, laid-word, laid-all, length-laid-octets}
 use Rattle.frame.specs.Lane.{dataBit, dataOctets}
-use Rattle.frame.proofs.Lane.{dataBit-lt}
+use Rattle.frame.proofs.Lane.{dataBit-lt, length-data}
 use Rattle.frame.proofs.Packing.{firstBit, secondBit, data-read, first-more, second-more, sync-read, invalid-read, octets-read}
 use Rattle.multiblock.proofs.read.Statement.{statement}
 use Rattle.multiblock.proofs.read.Tie as tie
@@ -20,6 +19,7 @@ use Rattle.multiblock.proofs.read.Tie as tie
 abbrev Inv-loop : tie.InvT-loop
 Inv-loop lane octets₀ first₀ second₀ word₀ block₀ octets first second word block =
     (block ≤ 32)
+    × (length octets ≡ 256)
     × (first ≡ number (firstBit (bitAt lane)) 0 block)
     × (second ≡ number (secondBit (bitAt lane)) 0 block)
     × (word ≡ number (bitAt lane) (64 * block) 64)
@@ -28,23 +28,12 @@ Inv-loop lane octets₀ first₀ second₀ word₀ block₀ octets first second 
 abbrev μ-loop : tie.MeasureT-loop
 μ-loop lane octets₀ first₀ second₀ word₀ block₀ octets first second word block = 32 - block
 
-returns : tie.Need-returns Inv-loop μ-loop
-returns c =
-    let a = c .before .before .before .args in
-    (sym (few-given 264 (now (a .lane)) 256 (now (a .octets)) (omega arith)), (refl, (refl, sym (untouched 4 (dataOctets 0 (bitAt (now (a .lane))) 0) (now (a .octets)) (λ e. omega arith)))))
-
-returns-2 : tie.Need-returns-2 Inv-loop μ-loop
-returns-2 c =
-    let a = c .before .before .before .before .args in
-    (sym (few-lent 264 (now (a .lane)) 256 (now (a .octets)) (omega arith) (omega arith)), (refl, (refl, sym (untouched 7 (dataOctets 0 (bitAt (now (a .lane))) 0) (now (a .octets)) (λ e. omega arith)))))
-
 word-at-requires : tie.Need-word-at-requires Inv-loop μ-loop
 word-at-requires c κs = search needs
 
 loop-holds : tie.Need-loop-holds Inv-loop μ-loop
 loop-holds c =
-    let a = c .before .before .before .before .before .args in
-    let lane = bitAt (now (a .lane)) in (search needs, number-none (firstBit lane) 0, number-none (secondBit lane) 0, c .word-at .ensures, laid-none (dataBit 0 lane 0) (now (a .octets)))
+    let lane = bitAt (now (c .before .before .args .lane)) in (search needs, refl, number-none (firstBit lane) 0, number-none (secondBit lane) 0, c .word-at .ensures, laid-none (dataBit 0 lane 0) _)
 
 add-word-at : tie.Need-add-word-at Inv-loop μ-loop
 add-word-at c = search needs
@@ -57,6 +46,9 @@ word-at-requires-2 c κs = search needs
 
 header-in-requires : tie.Need-header-in-requires Inv-loop μ-loop
 header-in-requires c κs = search needs
+
+slice-aggregate-put-word : tie.Need-slice-aggregate-put-word Inv-loop μ-loop
+slice-aggregate-put-word c = search needs
 
 mul-put-word : tie.Need-mul-put-word Inv-loop μ-loop
 mul-put-word c = search needs
@@ -75,47 +67,36 @@ loop-less c = search needs
 
 loop-again : tie.Need-loop-again Inv-loop μ-loop
 loop-again c =
-    let a = c .before .before .before .before .before .before .before .before .before .before .before .before .before .before .args in
-    let l = c .before .before .before .before .before .before .before .before .loop in
-    let lane = bitAt (now (a .lane)) in
-    let bits = bitAt-lt (now (a .lane)) in
-    let next = c .before .before .before .before .before .before .word-at2 in
-    let header = c .before .before .before .before .before .header-in in
-    let block = c .before .before .before .data-in in
+    let l = c .before .before .before .before .before .before .before .loop in
+    let octets = now (c .before .before .before .before .before .before .before .before .before .before .args .lane) in
+    let lane = bitAt octets in
+    let bits = bitAt-lt octets in
+    let next = c .before .before .before .before .before .word-at2 in
+    let header = c .before .before .before .before .header-in in
+    let block = c .before .before .data-in in
     let place : next .result ≡ number lane (64 * (l .block + 1)) 64 = next .ensures ∙ ap (λ (x : ℕ). number lane x 64) (omega arith) in (
       search needs,
-      first-more lane bits (l .block) (l .word) (omega arith) (l .inv .3) (header .result) (header .ensures) (l .first) (l .inv .1),
-      second-more lane bits (l .block) (l .word) (omega arith) (l .inv .3) (header .result) (header .ensures) (l .second) (l .inv .2),
+      search needs,
+      first-more lane bits (l .block) (l .word) (omega arith) (l .inv .4) (header .result) (header .ensures) (l .first) (l .inv .2),
+      second-more lane bits (l .block) (l .word) (omega arith) (l .inv .4) (header .result) (header .ensures) (l .second) (l .inv .3),
       place,
-      c .before .before .put-word .ensures
-          ∙ ap (laidAt (octetsOf (digit 64 (block .result)) 8) (8 * l .block)) (l .inv .4)
-          ∙ laid-word (dataBit 0 lane 0) (dataBit-lt 0 lane bits 0) (l .block) (block .result) (now (a .octets)) (omega arith)
-          (data-read lane bits (l .block) (l .word) (omega arith) (l .inv .3) (next .result) (block .result) place (block .ensures)),
+      c .before .put-word .ensures
+          ∙ ap (laidAt (octetsOf (digit 64 (block .result)) 8) (8 * l .block)) (l .inv .5)
+          ∙ laid-word (dataBit 0 lane 0) (dataBit-lt 0 lane bits 0) (l .block) (block .result) _ (omega arith)
+          (data-read lane bits (l .block) (l .word) (omega arith) (l .inv .4) (next .result) (block .result) place (block .ensures)),
     )
 
-same-length : tie.Need-same-length Inv-loop μ-loop
-same-length c =
-    let a = c .before .before .before .before .before .before .before .args in
+returns : tie.Need-returns Inv-loop μ-loop
+returns c =
     let l = c .before .loop in
-    ap length (l .inv .4) ∙ length-laid-octets (dataBit 0 (bitAt (now (a .lane))) 0) (8 * l .block) (now (a .octets)) (omega arith)
-
-returns-3 : tie.Need-returns-3 Inv-loop μ-loop
-returns-3 c =
-    let a = c .before .before .before .before .before .before .before .args in
-    let l = c .before .loop in
-    let lane = bitAt (now (a .lane)) in
-    let bits = bitAt-lt (now (a .lane)) in
+    let octets = now (c .before .before .before .before .args .lane) in
+    let lane = bitAt octets in
+    let bits = bitAt-lt octets in
     let e : l .block ≡ 32 = omega arith in
-    let first = l .inv .1 ∙ ap (number (firstBit lane) 0) e in
-    let second = l .inv .2 ∙ ap (number (secondBit lane) 0) e in (
-      sym (not-refused 264 (now (a .lane)) 256 (now (a .octets)) (omega arith) (omega arith)),
-      (
-        sync-read lane bits (l .first) (l .second) first second,
-        (
-          invalid-read lane bits (l .first) (l .second) first second,
-          l .inv .4 ∙ ap (λ (x : List ℕ). laid x (now (a .octets))) (octets-read lane (l .block) e) ∙ sym (answered 0 (dataOctets 0 lane 0) (now (a .octets)) refl),
-        ),
-      ),
+    let first = l .inv .2 ∙ ap (number (firstBit lane) 0) e in
+    let second = l .inv .3 ∙ ap (number (secondBit lane) 0) e in (
+      octets-read lane (l .block) _ e refl (l .inv .5),
+      (sync-read lane bits (l .first) (l .second) first second, invalid-read lane bits (l .first) (l .second) first second),
     )
 
 pub read-spec : {M : Type 1} → statement M
@@ -124,19 +105,17 @@ read-spec =
     (tie.spec
     Inv-loop
     μ-loop
-    returns
-    returns-2
     word-at-requires
     loop-holds
     add-word-at
     mul-word-at
     word-at-requires-2
     header-in-requires
+    slice-aggregate-put-word
     mul-put-word
     data-in-requires
     put-word-requires
     add-block
     loop-less
     loop-again
-    same-length
-    returns-3)
+    returns)

@@ -2,48 +2,44 @@
 -- Assumes nothing.
 use borrow.Author.Needs.{needs}
 use Prim.Native.Nat.{ℕ, _-_, _*_, _%_, _^_, _≤_, _<_}
-use mathlib.Core.Path.{_≡_, refl, sym, ap, _∙_}
+use mathlib.Core.Path.{_≡_, sym, ap, _∙_}
 use mathlib.Core.List.{List}
 use native.Mathlib.Omega.{arith}
 use lib.Dec.{lit≤}
 use lib.ListN.{length, getD}
 use denote.Ref.{now}
-use Rattle.bits.specs.Order.{bitAt, digit, number, octetsOf, octetsIn, laid, laidAt}
+use Rattle.bits.specs.Order.{digit, number, octetsOf, wordBit, laid, laidAt}
 use Rattle.bits.proofs.Numbers.{number-none}
-use Rattle.bits.proofs.Laid.{laid-none, laid-word, length-laid-octets}
-use Rattle.bits.proofs.Parts.{few-given, few-lent, not-refused, untouched, answered}
-use Rattle.bits.proofs.WordLists.{number-octetsIn}
+use Rattle.bits.proofs.Laid.{too-short, laid-none, laid-word, length-laid-octets}
+use Rattle.bits.proofs.Writing.{laidAt-start}
 use Rattle.frame.specs.Lane.{multiblock, multiblockBit}
 use Rattle.frame.proofs.Lane.{multiblockBit-lt}
-use Rattle.frame.proofs.Packing.{word-written, before-next, last-word, octets-written}
+use Rattle.frame.proofs.Packing.{word-written, before-next, last-word, octets-written, length-written, block-given}
 use Rattle.multiblock.proofs.write.Statement.{statement}
 use Rattle.multiblock.proofs.write.Tie as tie
 
 -- the lane up to word `block`, and what the block before leaves for that word
 abbrev Inv-loop : tie.InvT-loop
-Inv-loop sync words lane₀ before₀ block₀ lane before block =
+Inv-loop sync blocks lane₀ words before₀ block₀ lane before block =
     (block ≤ 32)
     × (before < 2 ^ 64)
-    × (before % 2 ^ (2 * block) ≡ number (multiblockBit 0 sync (octetsIn words)) (64 * block) (2 * block))
-    × (lane ≡ laid (octetsOf (multiblockBit 0 sync (octetsIn words)) (8 * block)) lane₀)
+    × (before % 2 ^ (2 * block) ≡ number (multiblockBit 0 sync (octetsOf (wordBit blocks) 256)) (64 * block) (2 * block))
+    × (lane ≡ laid (octetsOf (multiblockBit 0 sync (octetsOf (wordBit blocks) 256)) (8 * block)) lane₀)
 
 abbrev μ-loop : tie.MeasureT-loop
-μ-loop sync words lane₀ before₀ block₀ lane before block = 32 - block
+μ-loop sync blocks lane₀ words before₀ block₀ lane before block = 32 - block
 
 returns : tie.Need-returns Inv-loop μ-loop
 returns c =
-    let a = c .before .before .before .args in
-    (sym (few-given 32 (now (a .words)) 264 (now (a .lane)) (omega arith)), sym (untouched 4 (multiblock 0 (a .sync) (octetsIn (now (a .words)))) (now (a .lane)) (λ e. omega arith)))
-
-returns-2 : tie.Need-returns-2 Inv-loop μ-loop
-returns-2 c =
-    let a = c .before .before .before .before .args in
-    (sym (few-lent 32 (now (a .words)) 264 (now (a .lane)) (omega arith) (omega arith)), sym (untouched 7 (multiblock 0 (a .sync) (octetsIn (now (a .words)))) (now (a .lane)) (λ e. omega arith)))
+    let a = c .before .before .args in
+    let octets = octetsOf (wordBit (now (a .blocks))) 256 in
+    let size = length-written (a .sync) octets in
+    sym (too-short (multiblock 0 (a .sync) octets) 0 (now (a .lane)) (omega arith))
 
 loop-holds : tie.Need-loop-holds Inv-loop μ-loop
 loop-holds c =
-    let a = c .before .before .before .before .args in
-    let lane = multiblockBit 0 (a .sync) (octetsIn (now (a .words))) in (search needs, lit≤ tt, number-none lane 0, laid-none lane (now (a .lane)))
+    let a = c .before .before .before .args in
+    let lane = multiblockBit 0 (a .sync) (octetsOf (wordBit (now (a .blocks))) 256) in (search needs, lit≤ tt, number-none lane 0, laid-none lane (now (a .lane)))
 
 mul-own : tie.Need-mul-own Inv-loop μ-loop
 mul-own c = search needs
@@ -68,12 +64,12 @@ loop-less c = search needs
 
 loop-again : tie.Need-loop-again Inv-loop μ-loop
 loop-again c =
-    let a = c .before .before .before .before .before .before .before .before .before .before .before .before .args in
+    let a = c .before .before .before .before .before .before .before .before .before .before .before .args in
     let l = c .before .before .before .before .before .before .before .loop in
-    let octets = octetsIn (now (a .words)) in
-    let own = getD (now (a .words)) (l .block) 0 in
-    let short : own < 2 ^ 64 = omega (arith, c .before .before .before .before .before .shared-slice-known2 .given (l .block)) in
-    let is : own ≡ number (bitAt octets) (64 * l .block) 64 = sym (number-octetsIn (now (a .words)) (l .block) (omega arith) short) in
+    let octets = octetsOf (wordBit (now (a .blocks))) 256 in
+    let own = getD (now (a .blocks)) (l .block) 0 in
+    let short : own < 2 ^ 64 = omega (arith, c .before .before .before .before .before .shared-slice-known .given (l .block)) in
+    let is = block-given (now (a .blocks)) (l .block) (omega arith) short in
     let word = c .before .before .before .lane-word in (
       search needs,
       short,
@@ -89,24 +85,23 @@ put-word-requires-2 c κs = search needs
 
 same-length : tie.Need-same-length Inv-loop μ-loop
 same-length c =
-    let a = c .before .before .before .before .before .before .before .before .before .before .args in
+    let a = c .before .before .before .before .before .before .before .before .before .args in
     let l = c .before .before .before .before .before .loop in
-    let long = ap length (l .inv .3) ∙ length-laid-octets (multiblockBit 0 (a .sync) (octetsIn (now (a .words)))) (8 * l .block) (now (a .lane)) (omega arith) in search (needs, long)
+    let long = ap length (l .inv .3) ∙ length-laid-octets (multiblockBit 0 (a .sync) (octetsOf (wordBit (now (a .blocks))) 256)) (8 * l .block) (now (a .lane)) (omega arith) in search (needs, long)
 
-returns-3 : tie.Need-returns-3 Inv-loop μ-loop
-returns-3 c =
-    let a = c .before .before .before .before .before .before .before .before .before .before .args in
+returns-2 : tie.Need-returns-2 Inv-loop μ-loop
+returns-2 c =
+    let a = c .before .before .before .before .before .before .before .before .before .args in
     let l = c .before .before .before .before .before .loop in
-    let octets = octetsIn (now (a .words)) in
+    let octets = octetsOf (wordBit (now (a .blocks))) 256 in
     let lane = multiblockBit 0 (a .sync) octets in
-    let e : l .block ≡ 32 = omega arith in (
-      sym (not-refused 32 (now (a .words)) 264 (now (a .lane)) (omega arith) (omega arith)),
-      c .before .before .put-word2 .ensures
-          ∙ ap (laidAt (octetsOf (digit 64 (l .before)) 8) 256) (l .inv .3 ∙ ap (λ (x : ℕ). laid (octetsOf lane (8 * x)) (now (a .lane))) e)
-          ∙ laid-word lane (multiblockBit-lt 0 (a .sync) octets) 32 (l .before) (now (a .lane)) (omega arith) (last-word (a .sync) octets (l .block) (l .before) e (l .inv .1) (l .inv .2))
-          ∙ ap (λ (x : List ℕ). laid x (now (a .lane))) (octets-written (a .sync) octets)
-          ∙ sym (answered 0 (multiblock 0 (a .sync) octets) (now (a .lane)) refl),
-    )
+    let size = length-written (a .sync) octets in
+    let e : l .block ≡ 32 = omega arith in
+    c .before .before .put-word2 .ensures
+    ∙ ap (laidAt (octetsOf (digit 64 (l .before)) 8) 256) (l .inv .3 ∙ ap (λ (x : ℕ). laid (octetsOf lane (8 * x)) (now (a .lane))) e)
+    ∙ laid-word lane (multiblockBit-lt 0 (a .sync) octets) 32 (l .before) (now (a .lane)) (omega arith) (last-word (a .sync) octets (l .block) (l .before) e (l .inv .1) (l .inv .2))
+    ∙ ap (λ (x : List ℕ). laid x (now (a .lane))) (octets-written (a .sync) octets)
+    ∙ sym (laidAt-start (multiblock 0 (a .sync) octets) (now (a .lane)) (omega arith))
 
 pub write-spec : {M : Type 1} → statement M
 write-spec =
@@ -115,7 +110,6 @@ write-spec =
     Inv-loop
     μ-loop
     returns
-    returns-2
     loop-holds
     mul-own
     shared-slice-read-own
@@ -127,4 +121,4 @@ write-spec =
     loop-again
     put-word-requires-2
     same-length
-    returns-3)
+    returns-2)

@@ -6,21 +6,18 @@ use mathlib.Core.Path.{refl, sym, ap, _∙_}
 use mathlib.Core.List.{List}
 use Prim.Native.Nat.{ℕ}
 use Rattle.bits.specs.Order.{laid}
-use Rattle.bits.proofs.Parts.{few-given, few-lent, not-refused, untouched, answered}
+use Rattle.bits.proofs.Laid.{too-short}
+use Rattle.bits.proofs.Writing.{laidAt-start}
 use Rattle.scrambler.specs.Scrambling.{descrambled}
-use Rattle.scrambler.proofs.Scrambling.{descrambled-words}
+use Rattle.scrambler.proofs.Scrambling.{length-descrambled, descrambled-words}
 use Rattle.scrambler.proofs.descramble_multiblock.Statement.{statement}
 use Rattle.scrambler.proofs.descramble_multiblock.Tie as tie
 
 returns : tie.Need-returns
 returns c =
     let a = c .before .before .before .args in
-    (sym (few-given 256 (a .octets .now) 256 (a .out .now) (omega arith)), sym (untouched 4 (descrambled (a .octets .now) (a .history) 256) (a .out .now) (λ e. omega arith)))
-
-returns-2 : tie.Need-returns-2
-returns-2 c =
-    let a = c .before .before .before .before .args in
-    (sym (few-lent 256 (a .octets .now) 256 (a .out .now) (omega arith) (omega arith)), sym (untouched 7 (descrambled (a .octets .now) (a .history) 256) (a .out .now) (λ e. omega arith)))
+    let size = length-descrambled (a .octets .now) (a .history) 256 in
+    sym (too-short (descrambled (a .octets .now) (a .history) 256) 0 (a .out .now) (omega arith))
 
 slice-aggregate-blocks-of : tie.Need-slice-aggregate-blocks-of
 slice-aggregate-blocks-of c = search needs
@@ -37,24 +34,22 @@ descramble-blocks-requires c κs = search needs
 same-length : tie.Need-same-length
 same-length c = search needs
 
-returns-3 : tie.Need-returns-3
-returns-3 c =
-    let a = c .before .before .before .before .before .before .before .before .before .before .before .before .args in (
-      sym (not-refused 256 (a .octets .now) 256 (a .out .now) (omega arith) (omega arith)),
-      c .before .before .descramble-blocks .ensures
-          ∙ ap (λ (x : List ℕ). laid x (a .out .now)) (descrambled-words (a .octets .now) (a .history) 32 _ refl (c .before .before .before .before .before .before .blocks-of .ensures))
-          ∙ sym (answered 0 (descrambled (a .octets .now) (a .history) 256) (a .out .now) refl),
-    )
+returns-2 : tie.Need-returns-2
+returns-2 c =
+    let a = c .before .before .before .before .before .before .before .before .before .before .before .args in
+    let size = length-descrambled (a .octets .now) (a .history) 256 in
+    c .before .before .descramble-blocks .ensures
+    ∙ ap (λ (x : List ℕ). laid x (a .out .now)) (descrambled-words (a .octets .now) (a .history) 32 _ refl (c .before .before .before .before .before .before .blocks-of .ensures))
+    ∙ sym (laidAt-start (descrambled (a .octets .now) (a .history) 256) (a .out .now) (omega arith))
 
 pub descramble-multiblock-spec : {M : Type 1} → statement M
 descramble-multiblock-spec =
     tie.close
     (tie.spec
     returns
-    returns-2
     slice-aggregate-blocks-of
     blocks-of-requires
     slice-aggregate-descramble-blocks
     descramble-blocks-requires
     same-length
-    returns-3)
+    returns-2)

@@ -1,7 +1,7 @@
 -- `parity::Crc12::of` meets its contract.
 -- Assumes nothing.
 use borrow.Author.Needs.{needs}
-use Prim.Native.Nat.{_*_, _/_, _^_}
+use Prim.Native.Nat.{_*_, _/_}
 use mathlib.Core.Bool.{false}
 use native.Mathlib.Omega.{arith}
 use lib.ListN.{length}

@@ -1,7 +1,7 @@
 -- `parity::Fec::of` meets its contract.
 -- Assumes nothing.
 use borrow.Author.Needs.{needs}
-use Prim.Native.Nat.{_*_, _/_, _^_}
+use Prim.Native.Nat.{_*_, _/_}
 use mathlib.Core.Bool.{true}
 use native.Mathlib.Omega.{arith}
 use lib.ListN.{length}

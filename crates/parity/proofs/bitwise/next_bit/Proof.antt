@@ -1,7 +1,7 @@
 -- `parity::bitwise::next_bit` meets its contract.
 -- Assumes nothing.
 use borrow.Author.Needs.{needs}
-use Prim.Native.Nat.{_-_, _*_, _/_, _%_, _^_}
+use Prim.Native.Nat.{_*_, _/_, _%_, _^_}
 use lib.Bits.{bitXor}
 use Rattle.polynomial.proofs.Register.{multiple-fits, mask-some, step-code}
 use Rattle.parity.proofs.bitwise.next_bit.Statement.{statement}

@@ -2,13 +2,15 @@
 -- Assumes nothing.
 use borrow.Author.Needs.{needs}
 use Prim.Native.Nat.{ℕ, _+_, _-_, _%_, _^_, _≤_, _<_}
-use mathlib.Core.Path.{_≡_, refl, sym, _∙_, subst}
+use mathlib.Core.Path.{_≡_, refl, sym, _∙_}
 use native.Mathlib.Omega.{arith}
 use borrow.Author.Count.{below-more}
 use Rattle.polynomial.specs.Polynomial.{timesPower}
 use Rattle.polynomial.proofs.Polynomial.{timesX-lt}
-use Rattle.parity.specs.declared.Burst.the-variants.{Nothing}
-use Rattle.parity.specs.Answer.{Explains, Answer}
+use Rattle.parity.specs.declared.Burst.the-variants.{At, Nothing}
+use Rattle.parity.specs.Codeword.{fec}
+use Rattle.parity.specs.Answer.{Explains}
+use Rattle.parity.proofs.Answer.{answer-is}
 use Rattle.parity.proofs.Bursts.{fec-proper, starts}
 use Rattle.parity.proofs.Trap.{trap-next}
 use Rattle.parity.proofs.search.search.Statement.{statement}
@@ -16,7 +18,7 @@ use Rattle.parity.proofs.search.search.Tie as tie
 
 abbrev Inv-loop : tie.InvT-loop
 Inv-loop weights remainder found₀ trap place end pattern₀ found pattern =
-    (pattern % 2 ≡ 1) × (pattern ≤ 513) × (found ≡ Nothing) × ((q : ℕ) → q < pattern → Explains remainder place q → ⊥)
+    (pattern % 2 ≡ 1) × (pattern ≤ 513) × (found ≡ Nothing) × ((q : ℕ) → q < pattern → Explains fec remainder place q → ⊥)
 
 abbrev μ-loop : tie.MeasureT-loop
 μ-loop weights remainder found₀ trap place end pattern₀ found pattern = 513 - pattern
@@ -24,7 +26,7 @@ abbrev μ-loop : tie.MeasureT-loop
 abbrev Inv-search : tie.InvT-search
 Inv-search weights remainder found₀ trap₀ place₀ found trap place =
     (place ≤ 2074) × (found ≡ Nothing) × (trap < 2 ^ 26) × (place ≤ 2065 → timesPower 26 0x0220211 (2065 - place) trap ≡ remainder)
-    × ((p : ℕ) → p < place → (q : ℕ) → Explains remainder p q → ⊥)
+    × ((p : ℕ) → p < place → (q : ℕ) → Explains fec remainder p q → ⊥)
 
 abbrev μ-search : tie.MeasureT-search
 μ-search weights remainder found₀ trap₀ place₀ found trap place = 2074 - place
@@ -50,11 +52,11 @@ sum-of-requires c κs =
     let known = c .before .before .before .before .before .before .pre in
     (known .0, record { odd = l .inv .0; short = omega (arith, below .0); inside = omega (arith, below .1) })
 
-cast-t11 : tie.Need-cast-t11 Inv-loop μ-loop Inv-search μ-search
-cast-t11 c = search needs
+cast-first : tie.Need-cast-first Inv-loop μ-loop Inv-search μ-search
+cast-first c = search needs
 
-cast-t12 : tie.Need-cast-t12 Inv-loop μ-loop Inv-search μ-search
-cast-t12 c = search needs
+cast-bits : tie.Need-cast-bits Inv-loop μ-loop Inv-search μ-search
+cast-bits c = search needs
 
 add-pattern : tie.Need-add-pattern Inv-loop μ-loop Inv-search μ-search
 add-pattern c = search needs
@@ -99,16 +101,19 @@ search-again c =
 returns : tie.Need-returns Inv-loop μ-loop Inv-search μ-search
 returns c =
     let i = c .before .search in
-    subst (Answer (c .before .before .before .args .remainder)) (sym (i .inv .1)) (λ p q z. i .inv .4 p (omega (arith, starts (z .burst))) q z)
+    i .inv .1 ∙ answer-is (c .before .before .before .args .remainder) Nothing (λ p q z. i .inv .4 p (omega (arith, starts (z .burst))) q z)
 
 returns-2 : tie.Need-returns-2 Inv-loop μ-loop Inv-search μ-search
 returns-2 c =
     let l = c .before .before .before .loop in
     let below = c .before .before .before .before .patterns-below .ensures in
-    record {
+    let i = c .before .before .before .before .before .before .search in
+    let s = c .before .before .before .before .before .before .before .before .args .remainder in
+    answer-is s (At (i .place) (l .pattern))
+    (record {
       burst = record { odd = l .inv .0; short = omega (arith, below .0); inside = omega (arith, below .1) };
       makes = sym (c .before .sum-of .ensures) ∙ c .if1 .taken;
-    }
+    })
 
 pub search-spec : {M : Type 1} → statement M
 search-spec =
@@ -123,8 +128,8 @@ search-spec =
     patterns-below-requires
     loop-holds
     sum-of-requires
-    cast-t11
-    cast-t12
+    cast-first
+    cast-bits
     add-pattern
     loop-less
     loop-again

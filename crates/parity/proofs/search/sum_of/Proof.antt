@@ -12,12 +12,12 @@ use Rattle.parity.proofs.search.sum_of.Statement.{statement}
 use Rattle.parity.proofs.search.sum_of.Tie as tie
 
 abbrev Inv-loop : tie.InvT-loop
-Inv-loop weights place pattern sum₀ left₀ position₀ k₀ sum left position k =
-    (k ≤ 9) × (position ≡ place + k) × (left < 2 ^ (2074 - position))
-    × (bitXor sum (patternSum fec (9 - k) position left) ≡ patternSum fec 9 place pattern)
+Inv-loop weights place pattern sum₀ left₀ position₀ counter₀ sum left position counter =
+    (counter ≤ 9) × (position ≡ place + counter) × (left < 2 ^ (2074 - position))
+    × (bitXor sum (patternSum fec (9 - counter) position left) ≡ patternSum fec 9 place pattern)
 
 abbrev μ-loop : tie.MeasureT-loop
-μ-loop weights place pattern sum₀ left₀ position₀ k₀ sum left position k = 9 - k
+μ-loop weights place pattern sum₀ left₀ position₀ counter₀ sum left position counter = 9 - counter
 
 loop-holds : tie.Need-loop-holds Inv-loop μ-loop
 loop-holds c = (search needs, search needs, c .pre .1 .inside, refl)
@@ -37,8 +37,8 @@ element-copy-out-sum c = bit-inside c
 add-position : tie.Need-add-position Inv-loop μ-loop
 add-position c = let h : c .before .before .before .args .place < 2074 = starts (c .before .before .before .pre .1) in search needs
 
-add-k : tie.Need-add-k Inv-loop μ-loop
-add-k c = search needs
+add-counter : tie.Need-add-counter Inv-loop μ-loop
+add-counter c = search needs
 
 loop-less : tie.Need-loop-less Inv-loop μ-loop
 loop-less c = search needs
@@ -51,9 +51,9 @@ loop-again c =
       search needs,
       next-inside (l .position) (l .left) (l .inv .2),
       ⊎-elim
-          (λ w. bit-set (l .k) (l .position) (l .left) (l .sum) (c .if1 .sum) _ (search needs) (l .inv .3) (w .0 .taken)
+          (λ w. bit-set (l .counter) (l .position) (l .left) (l .sum) (c .if1 .sum) _ (search needs) (l .inv .3) (w .0 .taken)
           (w .2 ∙ ap (bitXor (l .sum)) (weight-at (a .weights .now) (l .position) (c .before .before .before .pre .0) (bit-inside (record { before = c .before; if1 = w .0 })))))
-          (λ w. bit-not (l .k) (l .position) (l .left) (l .sum) (c .if1 .sum) _ (search needs) (l .inv .3) (w .0 .left) (w .1))
+          (λ w. bit-not (l .counter) (l .position) (l .left) (l .sum) (c .if1 .sum) _ (search needs) (l .inv .3) (w .0 .left) (w .1))
           (c .if1 .came),
     )
 
@@ -61,7 +61,7 @@ returns : tie.Need-returns Inv-loop μ-loop
 returns c =
     let l = c .before .loop in
     let a = c .before .before .args in
-    bits-all (l .k) (l .position) (l .left) (l .sum) (patternSum fec 9 (a .place) (a .pattern)) (search needs) (l .inv .3)
+    bits-all (l .counter) (l .position) (l .left) (l .sum) (patternSum fec 9 (a .place) (a .pattern)) (search needs) (l .inv .3)
     ∙ sym (remainder-pattern fec 9 (a .place) (a .pattern) (c .before .before .pre .1))
 
 pub sum-of-spec : {M : Type 1} → statement M
@@ -74,7 +74,7 @@ sum-of-spec =
     mul-sum
     element-copy-out-sum
     add-position
-    add-k
+    add-counter
     loop-less
     loop-again
     returns)
