@@ -107,7 +107,7 @@ store word at old h =
     ap (λ (x : ℕ). laidAt lower (at + x) (laidAt upper at old)) (sym lu) ∙ laidAt-join upper lower at old (omega arith) ∙ ap (λ (x : List ℕ). laidAt x at old) (halves word)
 
 -- what is laid from the start
-laid-start : (new old : List ℕ) → length new ≤ length old → laidAt new 0 old ≡ laid new old
+pub laid-start : (new old : List ℕ) → length new ≤ length old → laidAt new 0 old ≡ laid new old
 unfolding laid
 laid-start new old h = fits new 0 old (omega arith) ∙ ap (λ (x : ℕ). new ++ drop x old) (zero-add (length new))
 
