@@ -3,7 +3,7 @@
 use borrow.Author.Needs.{needs}
 use Prim.Native.Nat.{_-_}
 use borrow.Author.Tests.{eq-eqb, ne-eqb}
-use Rattle.receiver.specs.Turn.{asFresh}
+use Rattle.receiver.specs.Refusal.{asFresh}
 use Rattle.receiver.proofs.Refusals.{all-fresh}
 use Rattle.receiver.proofs.refusal.as_fresh.Statement.{statement}
 use Rattle.receiver.proofs.refusal.as_fresh.Tie as tie

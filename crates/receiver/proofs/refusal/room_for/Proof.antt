@@ -2,13 +2,15 @@
 -- Assumes nothing.
 use borrow.Author.Needs.{needs}
 use Prim.Native.Nat.{_-_}
+use native.Mathlib.Omega.{arith}
 use borrow.Author.Tests.{le-leb, lt-leb}
-use Rattle.receiver.specs.Turn.{roomFor}
+use Rattle.frame.proofs.Rows.{most-is}
+use Rattle.receiver.specs.Refusal.{roomFor}
 use Rattle.receiver.proofs.refusal.room_for.Statement.{statement}
 use Rattle.receiver.proofs.refusal.room_for.Tie as tie
 
 mul-if1 : tie.Need-mul-if1
-mul-if1 c = search needs
+mul-if1 c = omega (arith, most-is, c .pre)
 
 returns : tie.Need-returns
 unfolding roomFor

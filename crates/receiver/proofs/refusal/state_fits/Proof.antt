@@ -1,7 +1,7 @@
 -- `receiver::refusal::state_fits` meets its contract.
 -- Assumes nothing.
 use borrow.Author.Needs.{needs}
-use Prim.Native.Nat.{ℕ, _-_, _≤_, _<_}
+use Prim.Native.Nat.{ℕ, _≤_, _<_}
 use mathlib.Core.Path.{_∙_, subst}
 use Rattle.frame.specs.Modes.{row}
 use Rattle.receiver.proofs.Refusals.{late-history, wide-command, waiting-fits, idle-fits}
@@ -9,24 +9,24 @@ use Rattle.receiver.proofs.refusal.state_fits.Statement.{statement}
 use Rattle.receiver.proofs.refusal.state_fits.Tie as tie
 
 returns : tie.Need-returns
-returns c = let a = c .before .before .args in late-history (row (a .mode)) (a .state) (c .if1 .taken)
-
-command-bound-requires : tie.Need-command-bound-requires
-command-bound-requires c κs = search needs
+returns c = let a = c .before .before .args in late-history (row (a .mode) .sync) (a .state) (c .if1 .taken)
 
 returns-2 : tie.Need-returns-2
-returns-2 c = let a = c .before .before .before .before .before .args in wide-command (row (a .mode)) (a .state) (c .before .before .before .if1 .left) (subst (λ (x : ℕ). x ≤ a .state .command) (c .before .before .command-bound .ensures) (c .if2 .taken))
+returns-2 c = let a = c .before .before .before .before .args in wide-command (row (a .mode) .sync) (a .state) (c .before .before .if1 .left) (subst (λ (x : ℕ). x ≤ a .state .command) (c .before .before .before .before .pre) (c .if2 .taken))
 
 returns-3 : tie.Need-returns-3
-returns-3 c = let a = c .before .before .before .before .before .before .args in waiting-fits (row (a .mode)) (a .state) (c .before .before .before .before .if1 .left) (subst (λ (x : ℕ). a .state .command < x) (c .before .before .before .command-bound .ensures) (c .before .if2 .left)) (c .if3 .taken)
+returns-3 c =
+    let a = c .before .before .before .before .before .args in
+    waiting-fits (row (a .mode) .sync) (a .state) (c .before .before .before .if1 .left) (subst (λ (x : ℕ). a .state .command < x) (c .before .before .before .before .before .pre) (c .before .if2 .left)) (c .if3 .taken)
 
 as-fresh-requires : tie.Need-as-fresh-requires
 as-fresh-requires c κs = search needs
 
 returns-4 : tie.Need-returns-4
-returns-4 c = let a = c .before .before .before .before .before .before .before .args in c .as-fresh .ensures ∙ idle-fits (row (a .mode)) (a .state) (c .before .before .before .before .before .if1 .left) (subst (λ (x : ℕ). a .state .command < x) (c .before .before .before .before .command-bound .ensures) (c .before .before .if2 .left)) (c .before .if3 .left)
+returns-4 c =
+    let a = c .before .before .before .before .before .before .args in
+    c .as-fresh .ensures
+    ∙ idle-fits (row (a .mode) .sync) (a .state) (c .before .before .before .before .if1 .left) (subst (λ (x : ℕ). a .state .command < x) (c .before .before .before .before .before .before .pre) (c .before .before .if2 .left)) (c .before .if3 .left)
 
 pub state-fits-spec : {M : Type 1} → statement M
-state-fits-spec =
-    tie.close
-    (tie.spec returns command-bound-requires returns-2 returns-3 as-fresh-requires returns-4)
+state-fits-spec = tie.close (tie.spec returns returns-2 returns-3 as-fresh-requires returns-4)

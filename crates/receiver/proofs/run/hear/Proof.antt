@@ -1,16 +1,10 @@
 -- `receiver::run::hear` meets its contract.
 -- Assumes nothing.
 use borrow.Author.Needs.{needs}
-use Prim.Native.Nat.{_-_}
-use mathlib.Core.Path.{refl}
-use lib.ListN.{replicate}
 use Rattle.receiver.proofs.Hearing.{heard-is}
 use denote.Ref.{now}
 use Rattle.receiver.proofs.run.hear.Statement.{statement}
 use Rattle.receiver.proofs.run.hear.Tie as tie
-
-slice-aggregate-read : tie.Need-slice-aggregate-read
-slice-aggregate-read c = search needs
 
 read-requires : tie.Need-read-requires
 read-requires c κs = search needs
@@ -23,13 +17,11 @@ command-requires c κs = search needs
 
 returns : tie.Need-returns
 returns c =
-    let a = c .before .before .before .before .before .before .args in
+    let s = c .before .before .before .before .before in
+    let a = s .args in
     let r = c .before .before .before .read in
-    let e = r .ensures in
-    heard-is (a .mode) (now (a .lane)) (replicate 256 0) (c .before .before .before .before .before .before .pre) refl (r .result .refusal) (r .result .bits) (r .result .invalid) (c .before .parity .result) (c .command .result) (r .last .1 .0)
-    (e .0) (e .1 .0) (e .1 .1 .0) (e .1 .1 .1) (c .before .parity .ensures) (c .command .ensures)
+    heard-is (a .row) (now (a .lane)) (r .result .bits) (r .result .invalid) (c .before .parity .result) (c .command .result) (r .result .octets)
+    (s .pre) (r .ensures .1 .0) (r .ensures .1 .1) (r .ensures .0) (c .before .parity .ensures) (c .command .ensures)
 
 pub hear-spec : {M : Type 1} → statement M
-hear-spec =
-    tie.close
-    (tie.spec slice-aggregate-read read-requires parity-requires command-requires returns)
+hear-spec = tie.close (tie.spec read-requires parity-requires command-requires returns)

@@ -1,14 +1,15 @@
 -- `receiver::run::release` meets its contract.
 -- Assumes nothing.
 use borrow.Author.Needs.{needs}
-use Prim.Native.Nat.{_-_}
+use native.Mathlib.Omega.{arith}
+use Rattle.frame.proofs.Rows.{most-is}
 use Rattle.receiver.proofs.Turns.{turned}
 use denote.Ref.{now}
 use Rattle.receiver.proofs.run.release.Statement.{statement}
 use Rattle.receiver.proofs.run.release.Tie as tie
 
 hear-requires : tie.Need-hear-requires
-hear-requires c κs = search needs
+hear-requires c κs = c .before .before .before .before .before .before .pre .0 .0
 
 release-requires : tie.Need-release-requires
 release-requires c κs = search needs
@@ -56,7 +57,8 @@ returns c =
     let h = c .before .before .before .before .before .before .before .hear in
     let r = c .before .before .before .before .release in
     let e = r .ensures in
-    turned (a .mode) (a .state) (now (a .lane)) (a .k) (now (a .octets)) (now (a .statuses)) (now (a .commands)) (now (a .places)) (now (a .patterns)) _ (h .result) (r .result) (pre .0 .0) (pre .0 .2) (h .ensures) (e .0) (e .1 .0) (e .1 .1 .0) (e .1 .1 .1 .0) (e .1 .1 .1 .1 .0) (e .1 .1 .1 .1 .1)
+    turned (a .row) (a .state) (now (a .lane)) (a .k) (now (a .octets)) (now (a .statuses)) (now (a .commands)) (now (a .places)) (now (a .patterns)) _ (h .result) (r .result)
+    (pre .0 .1) (pre .0 .2) (h .ensures) (e .0) (e .1 .0) (e .1 .1 .0) (e .1 .1 .1 .0) (e .1 .1 .1 .1)
 
 pub release-spec : {M : Type 1} → statement M
 release-spec =
