@@ -1,6 +1,5 @@
 -- Scrambling and descrambling: clause 7.2.4; document 01, "From octets to lane bits".
 -- A history is a number: bit 0 is the latest bit sent before. Only its 58 low bits count. Assumes nothing.
-use mathlib.Core.Bool.{Bool, true, false}
 use mathlib.Core.List.{List}
 use Prim.Native.Nat.{ℕ, zero, suc, _+_, _-_, _*_, _/_, _%_, _^_}
 use lib.Dec.{leb}

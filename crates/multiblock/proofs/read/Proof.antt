@@ -2,16 +2,15 @@
 -- Assumes nothing.
 use borrow.Author.Needs.{needs}
 use Prim.Native.Nat.{ℕ, _+_, _-_, _*_, _≤_}
-use mathlib.Core.Path.{_≡_, refl, sym, ap, _∙_}
-use mathlib.Core.List.{List}
+use mathlib.Core.Path.{_≡_, refl, ap, _∙_}
 use native.Mathlib.Omega.{arith}
 use lib.ListN.{length}
 use denote.Ref.{now}
 use Rattle.bits.specs.Order.{bitAt, digit, number, octetsOf, laid, laidAt}
 use Rattle.bits.proofs.Numbers.{bitAt-lt, number-none}
-use Rattle.bits.proofs.Laid.{laid-none, laid-word, laid-all, length-laid-octets}
-use Rattle.frame.specs.Lane.{dataBit, dataOctets}
-use Rattle.frame.proofs.Lane.{dataBit-lt, length-data}
+use Rattle.bits.proofs.Laid.{laid-none, laid-word}
+use Rattle.frame.specs.Lane.{dataBit}
+use Rattle.frame.proofs.Lane.{dataBit-lt}
 use Rattle.frame.proofs.Packing.{firstBit, secondBit, data-read, first-more, second-more, sync-read, invalid-read, octets-read}
 use Rattle.multiblock.proofs.read.Statement.{statement}
 use Rattle.multiblock.proofs.read.Tie as tie
@@ -74,13 +73,14 @@ loop-again c =
     let next = c .before .before .before .before .before .word-at2 in
     let header = c .before .before .before .before .header-in in
     let block = c .before .before .data-in in
-    let place : next .result ≡ number lane (64 * (l .block + 1)) 64 = next .ensures ∙ ap (λ (x : ℕ). number lane x 64) (omega arith) in (
+    let place : next .result ≡ number lane (64 * (l .block + 1)) 64 = next .ensures ∙ ap (λ (x : ℕ). number lane x 64) (omega arith) in
+    let put : c .before .put-word .last .0 ≡ laidAt (octetsOf (digit 64 (block .result)) 8) (8 * l .block) (l .octets) = c .before .put-word .ensures in (
       search needs,
       search needs,
       first-more lane bits (l .block) (l .word) (omega arith) (l .inv .4) (header .result) (header .ensures) (l .first) (l .inv .2),
       second-more lane bits (l .block) (l .word) (omega arith) (l .inv .4) (header .result) (header .ensures) (l .second) (l .inv .3),
       place,
-      c .before .put-word .ensures
+      put
           ∙ ap (laidAt (octetsOf (digit 64 (block .result)) 8) (8 * l .block)) (l .inv .5)
           ∙ laid-word (dataBit 0 lane 0) (dataBit-lt 0 lane bits 0) (l .block) (block .result) _ (omega arith)
           (data-read lane bits (l .block) (l .word) (omega arith) (l .inv .4) (next .result) (block .result) place (block .ensures)),

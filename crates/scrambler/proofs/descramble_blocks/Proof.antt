@@ -61,13 +61,14 @@ loop-again c =
     let block = c .before .before .before .before .descramble in
     let stream = wordBit (a .blocks .now) in
     let bits = wordBit-lt (a .blocks .now) in
+    let own : block .result ≡ number (plain (l .past) (digit 64 word)) 0 64 = block .ensures in
     let at : word ≡ number stream (64 * l .i) 64 = sym (number-word (a .blocks .now) (l .i) (omega (arith, c .before .before .before .before .before .before .shared-slice-known2 .given (l .i)))) in (
       omega arith,
       c .history-after2 .ensures ∙ next-come stream bits (a .history) (l .i) word (l .past) at,
       c .before .before .before .put-word .ensures
           ∙ ap (laidAt (octetsOf (digit 64 (block .result)) 8) (8 * l .i)) (l .inv .2)
           ∙ laid-word (plain (a .history) stream) (plain-lt (a .history) stream bits) (l .i) (block .result) (a .out .now) (omega arith)
-          (block .ensures ∙ next-plain stream bits (a .history) (l .i) word (l .past) at (l .inv .1)),
+          (own ∙ next-plain stream bits (a .history) (l .i) word (l .past) at (l .inv .1)),
     )
 
 same-length : tie.Need-same-length Inv-loop μ-loop
