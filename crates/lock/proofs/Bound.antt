@@ -9,20 +9,22 @@ use native.Mathlib.Omega.{arith}
 use borrow.Author.Tests.{eq-eqb}
 use lib.Dec.{eqb}
 use Rattle.frame.specs.Headers.{carries}
+use Rattle.frame.specs.Modes.{known, extentFits}
 use Rattle.frame.proofs.Headers.{valid-le}
-use Rattle.header_lock.specs.Table.{headerHunting, headerLocked, valid, headerStep}
-use Rattle.header_lock.specs.declared.HeaderLock.{HeaderLock}
-use Rattle.header_lock.proofs.Rows as rows
-use Rattle.extended_lock.specs.Table.{withHeader, matches, hunting, moved, extendedStep, freshExtended}
-use Rattle.extended_lock.specs.declared.ExtendedLock.{ExtendedLock}
-use Rattle.extended_lock.proofs.Rows.{hunts-on, with-hunting, step-by}
-use Rattle.extended_lock.proofs.Matches.{too-few}
+use Rattle.frame.proofs.Rows.{extent-within}
+use Rattle.lock.specs.HeaderTable.{headerHunting, headerLocked, valid, headerStep}
+use Rattle.lock.specs.ExtendedTable.{withHeader, matches, hunting, moved, extendedStep, freshExtended}
 use Rattle.lock.specs.Table.{lockStep}
-use Rattle.lock.specs.Accepted.{widthOf, stepped}
-use Rattle.lock.specs.Run.{ran}
+use Rattle.lock.specs.Refusals.{widthOf}
+use Rattle.lock.specs.Run.{stateAfter}
 use Rattle.lock.specs.Stream.{Crc12Sync, Crc12Headers, Held}
+use Rattle.lock.specs.declared.HeaderLock.{HeaderLock}
+use Rattle.lock.specs.declared.ExtendedLock.{ExtendedLock}
 use Rattle.lock.specs.declared.Lock.{Lock}
-use Rattle.lock.proofs.Runs.{ran-none, ran-next, never-refused}
+use Rattle.lock.proofs.HeaderRows as rows
+use Rattle.lock.proofs.ExtendedRows.{hunts-on, with-hunting, step-by}
+use Rattle.lock.proofs.Matches.{too-few}
+use Rattle.lock.proofs.Runs.{state-none, state-next, state-taken}
 use Rattle.lock.proofs.Follow.{follows}
 use Rattle.lock.proofs.Window.{Seen, seen-none, seen-more, seen-step}
 use Rattle.lock.proofs.Ends.{matches-at-ends}
@@ -58,9 +60,12 @@ later E p d sync w =
       otherMarks = λ n h k. w .otherMarks (d + n) (rw z h) (rw z k);
     }
 
-module _ (mode E p : ℕ) (headers : ℕ → ℕ) (known : mode ≤ 1) (some : 1 ≤ E) (few : E ≤ 256) (lane : Crc12Headers E p headers) where
+module _ (mode E p : ℕ) (headers : ℕ → ℕ) (of-mode : known mode ≡ true) (extent : extentFits E ≡ true) (lane : Crc12Headers E p headers) where
+  some : 1 ≤ E
+  some = extent-within E extent .0
+
   r : ℕ → Lock
-  r n = ran mode E headers n
+  r n = stateAfter mode E headers n
 
   values : (n : ℕ) → headers n ≤ 3
   values n = valid-le (headers n) (lane .valid n)
@@ -70,11 +75,11 @@ module _ (mode E p : ℕ) (headers : ℕ → ℕ) (known : mode ≤ 1) (some : 1
 
   next : (n : ℕ) → r (suc n) ≡ lockStep (widthOf mode) (32 * E) (r n) (headers n)
   unfolding r
-  next n = ran-next mode E headers known some few values n
+  next n = state-next mode E headers n (state-taken mode E headers of-mode extent values n)
 
   counting : (n : ℕ) → n ≤ 63 → r n ≡ withFresh (headerHunting 0 n)
   unfolding r
-  counting zero h = ran-none mode E headers
+  counting zero h = state-none mode E headers
   counting (suc n) h =
       next n ∙ ap (λ (x : Lock). lockStep (widthOf mode) (32 * E) x (headers n)) (counting n (omega arith)) ∙ counts (widthOf mode) (32 * E) (headers n) (good n) n (omega arith)
       ∙ ap (λ (k : ℕ). withFresh (headerHunting 0 k)) (add-one n)
@@ -134,13 +139,10 @@ module _ (mode E p : ℕ) (headers : ℕ → ℕ) (known : mode ≤ 1) (some : 1
       (subst (λ (n : ℕ). Seen sync n (withHeader (x k) (headers (64 + k)))) (sym (one-add k)) (seen-with k)))
 
   -- both locks are held after 95 + 128E blocks, and at every block after
-  pub locked-in-time : (n : ℕ) → 95 + 128 * E ≤ n → Held (ran mode E headers n)
+  pub locked-in-time : (n : ℕ) → 95 + 128 * E ≤ n → Held (stateAfter mode E headers n)
   unfolding r x
   locked-in-time n h =
       let z : 64 + (n - 64) ≡ n = omega arith in
       let s = still 31 (omega arith) in
-      subst (λ (k : ℕ). Held (ran mode E headers k)) z
-      (record { header = on (n - 64); extended = follows (32 * E) (64 + p) 31 (omega arith) (λ k. headers (64 + k)) x (s .0) (s .1) fed (n - 64) (omega arith) })
-
-  pub lane-never-refused : (n : ℕ) → stepped mode E (ran mode E headers n) (headers n) .refusal ≡ 0
-  lane-never-refused n = never-refused mode E headers known some few values n
+      subst (λ (k : ℕ). Held (stateAfter mode E headers k)) z
+      (record { header = on (n - 64); extended = follows (32 * E) (64 + p) 31 (omega (arith, some)) (λ k. headers (64 + k)) x (s .0) (s .1) fed (n - 64) (omega arith) })

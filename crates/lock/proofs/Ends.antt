@@ -9,10 +9,10 @@ use borrow.Author.Tests.{eq-eqb, ne-eqb, eqb-true, eqb-false}
 use lib.Dec.{eqb}
 use lib.Pow.{mod-pow-add}
 use Rattle.bits.proofs.Choice.{pick-both}
-use Rattle.extended_lock.specs.Table.{matches}
-use Rattle.extended_lock.specs.declared.ExtendedLock.{ExtendedLock}
-use Rattle.extended_lock.proofs.Matches.{match-from, match-tells}
+use Rattle.lock.specs.ExtendedTable.{matches}
 use Rattle.lock.specs.Stream.{alwaysOne, Crc12Sync}
+use Rattle.lock.specs.declared.ExtendedLock.{ExtendedLock}
+use Rattle.lock.proofs.Matches.{match-from, match-tells}
 use Rattle.lock.proofs.Follow.{lt-or-ge}
 use Rattle.lock.proofs.Window.{Seen}
 

@@ -8,10 +8,10 @@ use native.Mathlib.Nat.{suc-mod, mod-lt, mod-self, mod-eq-of-lt, eq-zero-or-pos,
 use native.Mathlib.Omega.{arith}
 use borrow.Author.Tests.{eq-eqb, ne-eqb}
 use lib.Dec.{eqb}
-use Rattle.extended_lock.specs.Table.{withHeader, hunting, following, locked, moved}
-use Rattle.extended_lock.specs.declared.Phase.the-variants.{Locked}
-use Rattle.extended_lock.specs.declared.ExtendedLock.{ExtendedLock}
-use Rattle.extended_lock.proofs.Rows.{with-hunting, with-following, with-locked, hunts-on, finds, waits, confirms, locks, holds-on, holds-again}
+use Rattle.lock.specs.ExtendedTable.{withHeader, hunting, following, locked, moved}
+use Rattle.lock.specs.declared.Phase.the-variants.{Locked}
+use Rattle.lock.specs.declared.ExtendedLock.{ExtendedLock}
+use Rattle.lock.proofs.ExtendedRows.{with-hunting, with-following, with-locked, hunts-on, finds, waits, confirms, locks, holds-on, holds-again}
 
 pub lt-or-ge : (m n : ℕ) → (m < n) ⊎ (n ≤ m)
 lt-or-ge m n = ⊎-elim (λ (e : n - m ≡ 0). inr (omega arith)) (λ (h : 0 < n - m). inl (omega arith)) (eq-zero-or-pos (n - m))

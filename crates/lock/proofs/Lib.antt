@@ -2,7 +2,12 @@
 pub mod Bound
 pub mod Words
 pub mod Runs
-pub mod Ranges
+pub mod Accepted
+pub mod HeaderRange
+pub mod ExtendedRange
 pub mod Follow
 pub mod Ends
 pub mod Window
+pub mod Matches
+pub mod HeaderRows
+pub mod ExtendedRows

@@ -11,9 +11,9 @@ use Rattle.bits.proofs.Choice.{pick-both}
 use Rattle.bits.proofs.Numbers.{low-digit}
 use Rattle.frame.specs.Headers.{carries}
 use Rattle.frame.proofs.Headers.{carries-lt}
-use Rattle.extended_lock.specs.Table.{withHeader, freshExtended, extendedStep}
-use Rattle.extended_lock.specs.declared.ExtendedLock.{ExtendedLock}
-use Rattle.extended_lock.proofs.Rows.{with-seen, with-headers, step-same}
+use Rattle.lock.specs.ExtendedTable.{withHeader, freshExtended, extendedStep}
+use Rattle.lock.specs.declared.ExtendedLock.{ExtendedLock}
+use Rattle.lock.proofs.ExtendedRows.{with-seen, with-headers, step-same}
 use Rattle.lock.proofs.Follow.{lt-or-ge}
 
 shifted : (x b i : ℕ) → b < 2 → i < 31 → (x % 2 ^ 31 * 2 + b) / 2 ^ (1 + i) % 2 ≡ x / 2 ^ i % 2

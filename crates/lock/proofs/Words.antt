@@ -8,7 +8,8 @@ use native.Mathlib.Omega.{arith}
 use borrow.Author.Tests.{eqb-true}
 use lib.Dec.{eqb}
 use lib.ListN.{getD}
-use Rattle.frame.specs.Modes.{Field, mark, fixed, row}
+use Rattle.frame.specs.Modes.{Field, mark, fixed, layout}
+use Rattle.frame.specs.declared.modes.Sync.the-variants.{Crc12}
 use Rattle.frame.specs.SyncWord.{held}
 use Rattle.frame.proofs.SyncWord.{held-mark, held-fixed}
 use Rattle.lock.specs.Stream.{alwaysOne, Crc12Sync}
@@ -28,13 +29,13 @@ one-of false k j f g h = g (eqb-true k j h)
 
 module _ (E p : ℕ) (some : 1 ≤ E) (parity command marks sync : ℕ → ℕ)
     (ends : (m : ℕ) → m % E ≡ E - 1 → marks m ≡ 1) (others : (m : ℕ) → (m % E ≡ E - 1 → ⊥) → marks m ≡ 0)
-    (words : (n : ℕ) → sync n ≡ held (parity ((n + p) / 32)) (command ((n + p) / 32)) (marks ((n + p) / 32)) (getD (row 0 .layout) ((n + p) % 32) (fixed 0))) where
-  at : (n k : ℕ) (x : Field) → getD (row 0 .layout) k (fixed 0) ≡ x → (n + p) % 32 ≡ k → sync n ≡ held (parity ((n + p) / 32)) (command ((n + p) / 32)) (marks ((n + p) / 32)) x
+    (words : (n : ℕ) → sync n ≡ held (parity ((n + p) / 32)) (command ((n + p) / 32)) (marks ((n + p) / 32)) (getD (layout Crc12) ((n + p) % 32) (fixed 0))) where
+  at : (n k : ℕ) (x : Field) → getD (layout Crc12) k (fixed 0) ≡ x → (n + p) % 32 ≡ k → sync n ≡ held (parity ((n + p) / 32)) (command ((n + p) / 32)) (marks ((n + p) / 32)) x
   at n k x f e =
       words n
-      ∙ ap (held (parity ((n + p) / 32)) (command ((n + p) / 32)) (marks ((n + p) / 32))) (ap (λ (t : ℕ). getD (row 0 .layout) t (fixed 0)) e ∙ f)
+      ∙ ap (held (parity ((n + p) / 32)) (command ((n + p) / 32)) (marks ((n + p) / 32))) (ap (λ (t : ℕ). getD (layout Crc12) t (fixed 0)) e ∙ f)
 
-  always : (n k b : ℕ) → getD (row 0 .layout) k (fixed 0) ≡ fixed b → (n + p) % 32 ≡ k → sync n ≡ b % 2
+  always : (n k b : ℕ) → getD (layout Crc12) k (fixed 0) ≡ fixed b → (n + p) % 32 ≡ k → sync n ≡ b % 2
   always n k b f e = at n k (fixed b) f e ∙ held-fixed (parity ((n + p) / 32)) (command ((n + p) / 32)) (marks ((n + p) / 32)) b
 
   marked : (n : ℕ) → (n + p) % 32 ≡ 22 → sync n ≡ marks ((n + p) / 32) % 2

@@ -4,7 +4,7 @@ use mathlib.Core.Bool.{Bool, true, _||_}
 use Prim.Native.Nat.{ℕ, _+_, _-_, _*_, _%_, _≤_}
 use lib.Dec.{eqb}
 use Rattle.frame.specs.Headers.{carries, invalid}
-use Rattle.extended_lock.specs.declared.Phase.the-variants.{Locked}
+use Rattle.lock.specs.declared.Phase.the-variants.{Locked}
 use Rattle.lock.specs.declared.Lock.{Lock}
 
 -- the positions of a sync word that are always 1

@@ -1,10 +1,10 @@
 -- The step of both locks: clause 7.6; document 01, "Lock tables", whose lines stand above the rows. Each lock's own table is in
--- `header_lock` and `extended_lock`. Assumes nothing.
+-- `HeaderTable` and `ExtendedTable`. Assumes nothing.
 use mathlib.Core.Bool.{Bool, true, false}
 use Prim.Native.Nat.{ℕ}
-use Rattle.header_lock.specs.Table.{headerHunting, valid, headerStep}
-use Rattle.extended_lock.specs.Table.{extendedStep, freshExtended}
-use Rattle.extended_lock.specs.declared.ExtendedLock.{ExtendedLock}
+use Rattle.lock.specs.HeaderTable.{headerHunting, valid, headerStep}
+use Rattle.lock.specs.ExtendedTable.{extendedStep, freshExtended}
+use Rattle.lock.specs.declared.ExtendedLock.{ExtendedLock}
 use Rattle.lock.specs.declared.Lock.{Lock}
 
 -- fresh: hunting, offset, run and bad count 0

@@ -1,3 +1,0 @@
--- Laws of header lock.
-pub mod Rows
-pub mod Ranges

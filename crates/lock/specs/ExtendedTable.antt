@@ -1,0 +1,70 @@
+-- The step table of extended lock: clause 7.6.2; document 01, "Lock tables", whose lines stand above the rows. From one look to the next are
+-- `period` blocks: 32E. Assumes nothing.
+use mathlib.Core.Bool.{Bool, true, false, _&&_}
+use Prim.Native.Nat.{ℕ, _+_, _-_, _*_, _%_, _^_}
+use lib.Dec.{ltb, leb, eqb}
+use Rattle.bits.specs.Choice.{pick}
+use Rattle.bits.specs.Order.{digit}
+use Rattle.frame.specs.Headers.{carries}
+use Rattle.lock.specs.declared.Phase.{Phase}
+use Rattle.lock.specs.declared.Phase.the-variants.{Hunting, Following, Locked}
+use Rattle.lock.specs.declared.ExtendedLock.{ExtendedLock}
+
+-- ---- the last 32 headers
+
+-- one header more, with the latest in bit 0; at most 32 are counted
+unfoldable pub withHeader : ExtendedLock → ℕ → ExtendedLock
+withHeader x header = record {
+  phase = x .phase;
+  seen = pick (ltb (x .seen) 32) (x .seen + 1) 32;
+  headers = x .headers % 2 ^ 31 * 2 + carries header;
+  good = x .good;
+  bad = x .bad;
+  next = x .next;
+}
+
+-- a match: at least 32 headers seen, and in the last 32 the end mark (position 22) is 1 and positions 27 to 31 are 00001
+unfoldable pub matches : ExtendedLock → Bool
+matches x = leb 32 (x .seen) && eqb (digit 32 (x .headers) 22) 1 && eqb (x .headers % 2 ^ 5) 1
+
+-- ---- extended lock
+
+-- the same headers, with a phase and what it counts
+abbrev pub counted : ExtendedLock → Phase → ℕ → ℕ → ℕ → ExtendedLock
+counted x phase good bad next = record { phase = phase; seen = x .seen; headers = x .headers; good = good; bad = bad; next = next }
+
+abbrev pub hunting : ExtendedLock → ExtendedLock
+hunting x = counted x Hunting 0 0 0
+
+abbrev pub following : ExtendedLock → ℕ → ℕ → ExtendedLock
+following x good next = counted x Following good 0 next
+
+abbrev pub locked : ExtendedLock → ℕ → ℕ → ExtendedLock
+locked x bad next = counted x Locked 0 bad next
+
+-- by: the phase, is this a block to look at, does it match
+abbrev pub extendedRow : Phase → Bool → Bool → ℕ → ExtendedLock → ExtendedLock
+-- while hunting, a match makes it following, good count 1
+extendedRow Hunting look true period x = following x 1 period
+extendedRow Hunting look false period x = hunting x
+-- following and locked look only at every 32E-th block from there; matches seen in between are ignored
+extendedRow Following false match period x = following x (x .good) (x .next - 1)
+extendedRow Locked false match period x = locked x (x .bad) (x .next - 1)
+-- following: match adds 1, locked at 4; no match, hunting
+extendedRow Following true true period x = pick (eqb (x .good + 1) 4) (locked x 0 period) (following x (x .good + 1) period)
+extendedRow Following true false period x = hunting x
+-- locked: match sets bad 0; no match adds 1, hunting at 8
+extendedRow Locked true true period x = locked x 0 period
+extendedRow Locked true false period x = pick (eqb (x .bad + 1) 8) (hunting x) (locked x (x .bad + 1) period)
+
+-- a look is due where 1 block is left to it
+unfoldable pub moved : ℕ → ExtendedLock → Bool → ExtendedLock
+moved period x match = extendedRow (x .phase) (eqb (x .next) 1) match period x
+
+-- one header: it is the latest of the last 32 when a match is looked for
+unfoldable pub extendedStep : ℕ → ExtendedLock → ℕ → ExtendedLock
+extendedStep period x header = moved period (withHeader x header) (matches (withHeader x header))
+
+-- hunting, and nothing seen
+abbrev pub freshExtended : ExtendedLock
+freshExtended = record { phase = Hunting; seen = 0; headers = 0; good = 0; bad = 0; next = 0 }
