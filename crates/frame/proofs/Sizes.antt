@@ -12,6 +12,16 @@ pub octets-some : (gap : ℕ) → 0 < laneOctets gap
 unfolding laneOctets blockWidth
 octets-some gap = omega arith
 
+-- bits of a block
+pub width-some : (gap : ℕ) → 0 < blockWidth gap
+unfolding blockWidth
+width-some gap = omega arith
+
+-- without a gap
+pub plain-octets : (gap : ℕ) → gap ≡ 0 → laneOctets gap ≡ 264
+unfolding laneOctets blockWidth
+plain-octets gap e = rw e
+
 pub length-multiblock : (gap sync : ℕ) (octets : List ℕ) → length (multiblock gap sync octets) ≡ laneOctets gap
 unfolding multiblock
 length-multiblock gap sync octets = length-octetsOf (multiblockBit gap sync octets) (laneOctets gap)

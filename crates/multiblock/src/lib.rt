@@ -29,7 +29,7 @@ fn lane_word(sync: u32, before: u64, own: u64, block: usize) -> u64
 }
 
 // Octets of a multiblock on the lane: 33 words of 64 bits.
-const OCTETS: usize = 8 * 33;
+pub const OCTETS: usize = 8 * 33;
 
 // A multiblock that carries a sync word and 32 blocks of data, over the start of `lane`; nothing where it does not fit.
 pub fn write(sync: u32, blocks: &[u64; 32], lane: &mut [u8])

@@ -4,7 +4,7 @@ use mathlib.Core.Path.{_≡_, refl, sym, ap, ap₂, _∙_, subst}
 use mathlib.Core.Bool.{Bool, true, false}
 use mathlib.Core.List.{List, []}
 use Prim.Native.Nat.{ℕ, _+_, _-_, _*_, _/_, _≤_, _<_}
-use native.Mathlib.Nat.{mul-zero, mul-one, mul-add, div-add-mod, div-eq-of-lt, le-div-iff-mul-le}
+use native.Mathlib.Nat.{mul-zero, mul-comm, mul-add, div-add-mod, div-eq-of-lt, le-div-iff-mul-le}
 use native.Mathlib.Omega.{arith}
 use borrow.Author.Tests.{ltb-true, ltb-false, eqb-true, eq-eqb, ne-eqb}
 use lib.Dec.{ltb, eqb}
@@ -82,6 +82,10 @@ module _ (R : Row) (s : Receiver) (lane : List ℕ) where
             same = ap (run R (bitAt lane) s) {x = n} {y = 1 + (n - 1)} (omega (arith, some)) ∙ begun (n - 1) ew;
           }
 
+-- what is taken of a lane is there
+pub taken-within : (size taken long : ℕ) → 0 < size → size * taken ≤ long → taken ≤ long / size
+taken-within size taken long some h = le-div-iff-mul-le some .1 (omega (arith, mul-comm size taken))
+
 -- ---- refused, or all of the lane
 
 module _ (mode : ℕ) (s : Receiver) (lane o st c p q : List ℕ) (refusal : ℕ) (e : refusal ≡ refusalOf mode s (length lane) (length o) (length st) (length c) (length p) (length q)) where
@@ -133,11 +137,12 @@ module _ (mode : ℕ) (s : Receiver) (lane o st c p q : List ℕ) (refusal : ℕ
         subst (λ (k : ℕ). Room k (length o) (length st) (length c) (length p) (length q)) (sym (from .left)) (ok .room),
       )
 
-      pub is-all : (size : ℕ) → size ≡ laneOctets (R .gap) → (r : Received) (o′ st′ c′ p′ q′ : List ℕ)
-          → done r o′ st′ c′ p′ q′ ≡ laidOut (run R (bitAt (take (length lane - size * b .taken) (drop (size * b .taken) lane))) (b .state) (length lane / size - b .taken)) o st c p q
+      pub is-all : (own : Row) → own ≡ R → (size : ℕ) → size ≡ laneOctets (R .gap) → (r : Received) (o′ st′ c′ p′ q′ : List ℕ)
+          → done r o′ st′ c′ p′ q′ ≡ laidOut (run own (bitAt (take (length lane - size * b .taken) (drop (size * b .taken) lane))) (b .state) (length lane / size - b .taken)) o st c p q
           → done r o′ st′ c′ p′ q′ ≡ entry mode s lane o st c p q
-      is-all size es r o′ st′ c′ p′ q′ h =
+      is-all own eo size es r o′ st′ c′ p′ q′ h =
           h
+          ∙ ap (λ (x : Row). laidOut (run x (bitAt (take (length lane - size * b .taken) (drop (size * b .taken) lane))) (b .state) (length lane / size - b .taken)) o st c p q) eo
           ∙ ap (λ (x : ℕ). laidOut (run R (bitAt (take (length lane - x * b .taken) (drop (x * b .taken) lane))) (b .state) (length lane / x - b .taken)) o st c p q) es
           ∙ ap (λ (x : List ℕ). laidOut (run R (bitAt x) (b .state) (n R s lane - b .taken)) o st c p q) (rest-of lane (L R s lane * b .taken))
           ∙ ap (λ (x : Step). laidOut x o st c p q) (sym (from .same))

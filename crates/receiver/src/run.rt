@@ -21,11 +21,12 @@ pub(crate) struct Heard {
     command: u32,
 }
 
+// The part is of a length that the compiler knows, so that the reader's loop tests none.
 fn hear(row: Row, lane: &[u8]) -> Heard
-    requires { ⌜ row .gap ≡ 0 ⌝ }
+    requires { ⌜ (row .gap ≡ 0) × (laneOctets (row .gap) ≤ length (now lane)) ⌝ }
     ensures { λ r. ⌜ r ≡ heardAt row (bitAt (now (lane .entry))) 0 ⌝ }
 {
-    let read = multiblock::read(lane);
+    let read = multiblock::read(&lane[0..multiblock::OCTETS]);
     let octets = read.octets;
     let kind = row.sync;
     let parity = sync::parity(kind, read.bits);
@@ -82,7 +83,7 @@ fn release(
     places: &mut [u16],
     patterns: &mut [u16],
 ) -> Receiver
-    requires { ⌜ (row .gap ≡ 0) × (state .waiting ≡ true) × (256 ≤ length (now octets)) ⌝ }
+    requires { ⌜ (row .gap ≡ 0) × (laneOctets (row .gap) ≤ length (now lane)) × (state .waiting ≡ true) × (256 ≤ length (now octets)) ⌝ }
     requires { ⌜ (k < mostOfAll) × (k < length (now statuses)) × (k < length (now commands)) × (k < length (now places)) × (k < length (now patterns)) ⌝ }
     ensures { λ r. ⌜ Turned (step row (bitAt (now (lane .entry))) 0 state .state) (releaseAt row (bitAt (now (lane .entry))) 0 state) k r
         (now (octets .entry)) (now (statuses .entry)) (now (commands .entry)) (now (places .entry)) (now (patterns .entry))

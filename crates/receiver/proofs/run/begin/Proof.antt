@@ -25,7 +25,9 @@ returns-2 c =
     (simp (c .before .if1 .left, lt-ltb _ _ short), (omega arith, omega (arith, mul-zero (a .size))))
 
 hear-requires : tie.Need-hear-requires
-hear-requires c κs = c .before .before .before .pre .0
+hear-requires c κs =
+    let a = c .before .before .before .args in
+    (c .before .before .before .pre .0, subst (λ (x : ℕ). x ≤ length (now (a .lane))) (c .before .before .before .pre .1) (c .if2 .left))
 
 returns-3 : tie.Need-returns-3
 unfolding begunBy heardAt waitingAt

@@ -1,10 +1,21 @@
 -- `receiver::run::hear` meets its contract.
 -- Assumes nothing.
 use borrow.Author.Needs.{needs}
+use native.Mathlib.Omega.{arith}
+use Rattle.frame.proofs.Sizes.{plain-octets}
 use Rattle.receiver.proofs.Hearing.{heard-is}
 use denote.Ref.{now}
 use Rattle.receiver.proofs.run.hear.Statement.{statement}
 use Rattle.receiver.proofs.run.hear.Tie as tie
+
+sub-read : tie.Need-sub-read
+sub-read c = search needs
+
+part-read-start : tie.Need-part-read-start
+part-read-start c = search needs
+
+part-read-end : tie.Need-part-read-end
+part-read-end c = let s = c .before in omega (arith, s .pre .1, plain-octets (s .args .row .gap) (s .pre .0))
 
 read-requires : tie.Need-read-requires
 read-requires c κs = search needs
@@ -17,11 +28,11 @@ command-requires c κs = search needs
 
 returns : tie.Need-returns
 returns c =
-    let s = c .before .before .before .before .before in
+    let s = c .before .before .before .before .before .before in
     let a = s .args in
     let r = c .before .before .before .read in
     heard-is (a .row) (now (a .lane)) (r .result .bits) (r .result .invalid) (c .before .parity .result) (c .command .result) (r .result .octets)
-    (s .pre) (r .ensures .1 .0) (r .ensures .1 .1) (r .ensures .0) (c .before .parity .ensures) (c .command .ensures)
+    (s .pre .0) (r .ensures .1 .0) (r .ensures .1 .1) (r .ensures .0) (c .before .parity .ensures) (c .command .ensures)
 
 pub hear-spec : {M : Type 1} → statement M
-hear-spec = tie.close (tie.spec read-requires parity-requires command-requires returns)
+hear-spec = tie.close (tie.spec sub-read part-read-start part-read-end read-requires parity-requires command-requires returns)

@@ -9,7 +9,7 @@ use Rattle.receiver.proofs.run.release.Statement.{statement}
 use Rattle.receiver.proofs.run.release.Tie as tie
 
 hear-requires : tie.Need-hear-requires
-hear-requires c κs = c .before .before .before .before .before .before .pre .0 .0
+hear-requires c κs = let pre = c .before .before .before .before .before .before .pre in (pre .0 .0, pre .0 .1)
 
 release-requires : tie.Need-release-requires
 release-requires c κs = search needs
@@ -18,19 +18,19 @@ slice-write-statuses : tie.Need-slice-write-statuses
 slice-write-statuses c = search needs
 
 mul-commands : tie.Need-mul-commands
-mul-commands c = search needs
+mul-commands c = omega (arith, most-is, c .before .before .before .before .before .before .before .before .before .before .before .before .before .pre .1 .0)
 
 slice-write-commands : tie.Need-slice-write-commands
 slice-write-commands c = search needs
 
 mul-places : tie.Need-mul-places
-mul-places c = search needs
+mul-places c = omega (arith, most-is, c .before .before .before .before .before .before .before .before .before .before .before .before .before .pre .1 .0)
 
 slice-write-places : tie.Need-slice-write-places
 slice-write-places c = search needs
 
 mul-patterns : tie.Need-mul-patterns
-mul-patterns c = search needs
+mul-patterns c = omega (arith, most-is, c .before .before .before .before .before .before .before .before .before .before .before .before .before .pre .1 .0)
 
 slice-write-patterns : tie.Need-slice-write-patterns
 slice-write-patterns c = search needs
@@ -58,7 +58,7 @@ returns c =
     let r = c .before .before .before .before .release in
     let e = r .ensures in
     turned (a .row) (a .state) (now (a .lane)) (a .k) (now (a .octets)) (now (a .statuses)) (now (a .commands)) (now (a .places)) (now (a .patterns)) _ (h .result) (r .result)
-    (pre .0 .1) (pre .0 .2) (h .ensures) (e .0) (e .1 .0) (e .1 .1 .0) (e .1 .1 .1 .0) (e .1 .1 .1 .1)
+    (pre .0 .2) (pre .0 .3) (h .ensures) (e .0) (e .1 .0) (e .1 .1 .0) (e .1 .1 .1 .0) (e .1 .1 .1 .1)
 
 pub release-spec : {M : Type 1} → statement M
 release-spec =

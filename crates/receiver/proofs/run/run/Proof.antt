@@ -1,40 +1,53 @@
 -- `receiver::run::run` meets its contract.
 -- Assumes nothing.
 use borrow.Author.Needs.{needs}
-use Prim.Native.Nat.{_-_, _*_, _≤_}
+use Prim.Native.Nat.{ℕ, suc, _-_, _*_, _≤_}
 use mathlib.Core.Path.{ap, _∙_}
+use native.Mathlib.Nat.{le-trans, mul-le-mul-left, mul-suc}
 use native.Mathlib.Omega.{arith}
-use lib.ListN.{length, length-drop}
+use lib.ListN.{length, drop, length-drop}
 use Rattle.bits.specs.Order.{bitAt}
-use Rattle.frame.specs.Modes.{row}
+use Rattle.frame.proofs.Rows.{most-is}
 use Rattle.receiver.proofs.Turns.{Held, held-none, rest-of, still-waits, held-more, held-all}
 use denote.Ref.{now}
 use Rattle.receiver.proofs.run.run.Statement.{statement}
 use Rattle.receiver.proofs.run.run.Tie as tie
 
 abbrev Inv-loop : tie.InvT-loop
-Inv-loop mode lane n octets₀ statuses₀ commands₀ places₀ patterns₀ state₀ k₀ octets statuses commands places patterns state k = (k ≤ n) × Held (row mode) (bitAt lane) state₀ k state octets₀ statuses₀ commands₀ places₀ patterns₀ octets statuses commands places patterns
+Inv-loop row size lane n octets₀ statuses₀ commands₀ places₀ patterns₀ state₀ k₀ octets statuses commands places patterns state k =
+    (k ≤ n) × Held row (bitAt lane) state₀ k state octets₀ statuses₀ commands₀ places₀ patterns₀ octets statuses commands places patterns
 
 abbrev μ-loop : tie.MeasureT-loop
-μ-loop mode lane n octets₀ statuses₀ commands₀ places₀ patterns₀ state₀ k₀ octets statuses commands places patterns state k = n - k
+μ-loop row size lane n octets₀ statuses₀ commands₀ places₀ patterns₀ state₀ k₀ octets statuses commands places patterns state k = n - k
+
+-- what is received of the lane is there
+there : (size k n long : ℕ) → k ≤ n → size * n ≤ long → size * k ≤ long
+there size k n long h l = le-trans (mul-le-mul-left size h) l
 
 loop-holds : tie.Need-loop-holds Inv-loop μ-loop
 loop-holds c = (search needs, held-none _ _ _ _ _ _ _ _)
 
-mul-release : tie.Need-mul-release Inv-loop μ-loop
-mul-release c = search needs
+mul-at : tie.Need-mul-at Inv-loop μ-loop
+mul-at c =
+    let s = c .before .before .before .before .before .before .before .before in
+    let at = there (s .args .size) (c .before .loop .k) (s .args .n) (length (now (s .args .lane))) (c .before .loop .inv .0) (s .pre .1 .1) in
+    omega (arith, at)
 
 sub-release : tie.Need-sub-release Inv-loop μ-loop
-sub-release c = search needs
+sub-release c =
+    let s = c .before .before .before .before .before .before .before .before in
+    omega (arith, there (s .args .size) (c .before .loop .k) (s .args .n) (length (now (s .args .lane))) (c .before .loop .inv .0) (s .pre .1 .1))
 
 part-release-start : tie.Need-part-release-start Inv-loop μ-loop
-part-release-start c = search needs
+part-release-start c =
+    let s = c .before .before .before .before .before .before .before .before in
+    omega (arith, there (s .args .size) (c .before .loop .k) (s .args .n) (length (now (s .args .lane))) (c .before .loop .inv .0) (s .pre .1 .1))
 
 part-release-end : tie.Need-part-release-end Inv-loop μ-loop
 part-release-end c = search needs
 
-mul-release-2 : tie.Need-mul-release-2 Inv-loop μ-loop
-mul-release-2 c = search needs
+mul-release : tie.Need-mul-release Inv-loop μ-loop
+mul-release c = omega (arith, most-is, c .before .before .loop .inv .0, c .before .before .before .before .before .before .before .before .before .pre .1 .2)
 
 sub-release-2 : tie.Need-sub-release-2 Inv-loop μ-loop
 sub-release-2 c = search needs
@@ -51,11 +64,26 @@ release-requires c κs =
     let pre = c .before .before .before .before .before .before .before .before .before .before .before .before .before .before .pre in
     let l = c .before .before .before .before .before .before .before .loop in
     let h = l .inv .1 in
-    let room = pre .1 in
-    let long = ap length (rest-of (now (a .lane)) (264 * l .k)) ∙ length-drop (264 * l .k) (now (a .lane)) in
+    let room = pre .2 in
+    let at = a .size * l .k in
+    let long = ap length (rest-of (now (a .lane)) at) ∙ length-drop at (now (a .lane)) in
     let part = ap length (rest-of (l .octets) (256 * l .k)) ∙ length-drop (256 * l .k) (l .octets) in
     let less = c .before .before .before .before .before .before .loop-test .taken in
-    ((still-waits (a .mode) (now (a .lane)) (a .start) (l .k) (a .n) (l .state) (now (a .octets)) (now (a .statuses)) (now (a .commands)) (now (a .places)) (now (a .patterns)) (l .octets) (l .statuses) (l .commands) (l .places) (l .patterns) (pre .0 .0 (omega (arith, less))) less room h, omega (arith, long, less, pre .0 .1), omega (arith, part, less, room .octets-fit, h .octets-long)), (omega (arith, less, pre .0 .2), omega (arith, less, room .statuses-fit, h .statuses-long), omega (arith, less, room .commands-fit, h .commands-long), omega (arith, less, room .places-fit, h .places-long), omega (arith, less, room .patterns-fit, h .patterns-long)))
+    let next = there (a .size) (suc (l .k)) (a .n) (length (now (a .lane))) less (pre .1 .1) in (
+      (
+        pre .0 .0,
+        omega (arith, long, next, mul-suc (a .size) (l .k), pre .0 .1),
+        still-waits (a .row) (now (a .lane)) (a .start) (l .k) (a .n) (l .state) (now (a .octets)) (now (a .statuses)) (now (a .commands)) (now (a .places)) (now (a .patterns)) (l .octets) (l .statuses) (l .commands) (l .places) (l .patterns) (pre .1 .0 (omega (arith, less))) less room h,
+        omega (arith, part, less, room .octets-fit, h .octets-long),
+      ),
+      (
+        omega (arith, less, pre .1 .2),
+        omega (arith, less, room .statuses-fit, h .statuses-long),
+        omega (arith, less, room .commands-fit, h .commands-long),
+        omega (arith, less, room .places-fit, h .places-long),
+        omega (arith, less, room .patterns-fit, h .patterns-long),
+      ),
+    )
 
 add-k : tie.Need-add-k Inv-loop μ-loop
 add-k c = search needs
@@ -70,7 +98,7 @@ loop-again c =
     let l = c .before .before .before .before .before .before .before .before .before .before .before .before .before .before .before .before .before .before .loop in
     let less = c .before .before .before .before .before .before .before .before .before .before .before .before .before .before .before .before .before .loop-test .taken in
     let r = c .before .before .before .before .before .before .before .before .before .before .release in
-    (omega (arith, less), held-more (a .mode) (now (a .lane)) (a .start) (l .k) (a .n) (l .state) (now (a .octets)) (now (a .statuses)) (now (a .commands)) (now (a .places)) (now (a .patterns)) (l .octets) (l .statuses) (l .commands) (l .places) (l .patterns) (pre .0 .0 (omega (arith, less))) less (pre .1) (l .inv .1) _ (r .result) _ _ _ _ _ (rest-of (now (a .lane)) (264 * l .k)) (r .kept .1 .1 .1 .1 .0) (r .ensures))
+    (omega (arith, less), held-more (a .row) (now (a .lane)) (a .start) (l .k) (a .n) (l .state) (now (a .octets)) (now (a .statuses)) (now (a .commands)) (now (a .places)) (now (a .patterns)) (l .octets) (l .statuses) (l .commands) (l .places) (l .patterns) (pre .1 .0 (omega (arith, less))) less (pre .2) (l .inv .1) _ (r .result) _ _ _ _ _ (rest-of (now (a .lane)) (a .size * l .k) ∙ ap (λ (x : ℕ). drop (x * l .k) (now (a .lane))) (pre .0 .1)) (r .kept .1 .1 .1 .1 .0) (r .ensures))
 
 same-length : tie.Need-same-length Inv-loop μ-loop
 same-length c = search needs
@@ -91,7 +119,7 @@ returns : tie.Need-returns Inv-loop μ-loop
 returns c =
     let a = c .before .before .before .before .before .before .before .before .args in
     let l = c .before .loop in
-    held-all (row (a .mode)) (bitAt (now (a .lane))) (a .start) (l .k) (a .n) (l .state) _ _ _ _ _ _ _ _ _ _ (c .before .before .before .before .before .before .before .before .pre .0 .0) (omega (arith, c .loop-test .left, l .inv .0)) (l .inv .1)
+    held-all (a .row) (bitAt (now (a .lane))) (a .start) (l .k) (a .n) (l .state) _ _ _ _ _ _ _ _ _ _ (c .before .before .before .before .before .before .before .before .pre .1 .0) (omega (arith, c .loop-test .left, l .inv .0)) (l .inv .1)
 
 pub run-spec : {M : Type 1} → statement M
 run-spec =
@@ -100,11 +128,11 @@ run-spec =
     Inv-loop
     μ-loop
     loop-holds
-    mul-release
+    mul-at
     sub-release
     part-release-start
     part-release-end
-    mul-release-2
+    mul-release
     sub-release-2
     part-release-start-2
     part-release-end-2
