@@ -4,6 +4,7 @@ use Prim.Native.Nat.{ℕ, _+_, _^_}
 use Rattle.polynomial.specs.Polynomial.{product}
 use Rattle.parity.specs.Codeword.{Code, crc12, fec}
 
+-- parity bits, bits of a codeword, bits of the longest burst, and the polynomial, whose coefficient of x^k is bit k
 pub record Numbers (C : Code) (width positions limit polynomial : ℕ) : Type 0 where
   pub parity : C .width ≡ width
   pub codeword : C .positions ≡ positions

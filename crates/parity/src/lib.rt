@@ -1,7 +1,7 @@
 // Parity: remainders, weights and bursts. Document 01, "Parity"; clauses 7.4.2 and 7.5.2.
 ghost use mathlib.Core.Path.{_≡_};
 ghost use Rattle.bits.specs.Order.{octetsIn};
-ghost use Rattle.parity.specs.Codeword.{Code, crc12, fec, parityOf};
+ghost use Rattle.parity.specs.Codeword.{crc12, fec, parityOf};
 ghost use Rattle.parity.specs.Answer.{burstFor};
 
 mod bitwise;

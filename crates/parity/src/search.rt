@@ -13,8 +13,10 @@ use crate::Fec;
 // The last place where a burst of all LIMIT bits can begin.
 const LAST: usize = Fec::POSITIONS - Fec::LIMIT;
 
-// All patterns are below this.
+// A pattern is below PATTERNS, so that no bit of it is above HIGHEST.
 const PATTERNS: u32 = 1 << Fec::LIMIT;
+
+const HIGHEST: u32 = Fec::LIMIT as u32 - 1;
 
 // x^-LAST
 const BACK: u32 = 64619501;
@@ -48,7 +50,7 @@ fn patterns_below(remainder: u32, trap: u32, place: usize) -> u32
     ensures { λ r. ⌜ (r ≤ 2 ^ fec .limit) × (r ≤ 2 ^ (fec .positions - place)) × ((pattern : ℕ) → Explains fec remainder place pattern → pattern < r) ⌝ }
 {
     if place <= LAST {
-        if trap >> (Fec::LIMIT - 1) == 1 {
+        if trap >> HIGHEST == 1 {
             return PATTERNS;
         }
         return 0;
