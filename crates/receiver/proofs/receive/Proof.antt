@@ -2,6 +2,7 @@
 -- Assumes nothing.
 use borrow.Author.Needs.{needs}
 use mathlib.Core.Path.{ap, _∙_}
+use Prim.Native.Nat.{_*_, _^_, _≤_, _<_}
 use native.Mathlib.Omega.{arith}
 use lib.ListN.{length}
 use Rattle.frame.specs.declared.modes.Row.{Row}
@@ -38,7 +39,7 @@ begin-requires c κs =
     (ap (λ (x : Row). x .gap) (c .before .before .before .row-of .ensures) ∙ no-gap (c .before .before .before .before .before .before .before .before .before .before .args .mode), ap (λ (x : Numbers). x .octets) (c .before .before .numbers-of .ensures))
 
 div-n : tie.Need-div-n
-div-n c = ?
+div-n c = omega (arith, ap (λ (x : Numbers). x .octets) (c .before .before .before .before .numbers-of .ensures), octets-some (c .before .before .before .before .before .row-of .result .gap))
 
 sub-n : tie.Need-sub-n
 sub-n c =
@@ -46,7 +47,10 @@ sub-n c =
     taken-within _ _ (length (now (c .before .before .before .before .before .before .before .before .before .before .before .before .before .args .lane))) (omega (arith, size, octets-some (c .before .before .before .before .before .before .row-of .result .gap))) (c .before .before .begin .ensures .1 .1)
 
 mul-from : tie.Need-mul-from
-mul-from c = omega (arith, c .before .before .before .begin .ensures .1 .1)
+mul-from c =
+    let at : c .before .before .before .before .before .before .numbers-of .result .octets * c .before .before .before .begin .result .taken ≤ length (now (c .before .before .before .before .before .before .before .before .before .before .before .before .before .before .args .lane)) = c .before .before .before .begin .ensures .1 .1 in
+    let within : c .before .before .before .before .before .before .numbers-of .result .octets * c .before .before .before .begin .result .taken < 2 ^ 64 = omega (arith, at, c .before .before .before .before .before .before .before .before .before .before .before .before .before .before .good .1 .1 .0) in
+    record { fits = within }
 
 sub-run : tie.Need-sub-run
 sub-run c = omega (arith, c .before .before .before .begin .ensures .1 .1)
@@ -68,7 +72,7 @@ run-requires c κs =
     let size = ap (λ (x : Numbers). x .octets) (numbers ∙ ap numbersOf own) in
     let narrow = ap (λ (x : Row). x .gap) own ∙ no-gap (a .mode) in
     let given = ready (a .mode) (a .state) (now (a .lane)) (now (a .octets)) (now (a .statuses)) (now (a .commands)) (now (a .places)) (now (a .patterns)) (f .result) (f .ensures) (c .before .before .before .before .before .before .before .before .before .before .if1 .left) (b .result) (b .ensures .0 ∙ ap (λ (x : Row). begunBy x (a .state) (now (a .lane))) own) _ size in
-    ((narrow, ap (λ (x : Numbers). x .octets) numbers), given .0, given .1)
+    ((narrow, ap (λ (x : Numbers). x .octets) numbers), (given .0, given .1))
 
 same-length : tie.Need-same-length
 same-length c = c .before .before .before .before .before .before .before .before .before .before .run .kept .1 .1 .1 .1 .1 .0

@@ -11,15 +11,6 @@ use Rattle.parity.proofs.Trap.{trap-shows, remainder-shows}
 use Rattle.parity.proofs.search.patterns_below.Statement.{statement}
 use Rattle.parity.proofs.search.patterns_below.Tie as tie
 
-sub-if2 : tie.Need-sub-if2
-sub-if2 c = search needs
-
-cast-if2 : tie.Need-cast-if2
-cast-if2 c = search needs
-
-shr-if2 : tie.Need-shr-if2
-shr-if2 c = search needs
-
 returns : tie.Need-returns
 returns c = (le-refl 512, pow-mono {i = 9} {j = 2074 - c .before .before .args .place} (omega arith), λ pattern e. e .burst .short)
 
@@ -63,20 +54,4 @@ returns-4 c =
 pub patterns-below-spec : {M : Type 1} → statement M
 patterns-below-spec =
     tie.close
-    (tie.spec
-    sub-if2
-    cast-if2
-    shr-if2
-    returns
-    returns-2
-    sub-left
-    cast-left
-    sub-if3
-    shr-if3
-    shl-result
-    returns-3
-    returns-4)
-
--- x1
--- x2
--- x3
+    (tie.spec returns returns-2 sub-left cast-left sub-if3 shr-if3 shl-result returns-3 returns-4)
