@@ -67,13 +67,13 @@ fn word_lines(layout: &Layout, cases: Vec<Fields>) -> Vec<String> {
 }
 
 /// The command of a CRC-12 word of zeros in which the header at one position is invalid.
-fn bad_header_lines() -> Vec<String> {
-    let line = |position: u32| format!("command bad {position} -> {:02X}", CRC12.command(0, 2_u32.pow(31 - position)));
+fn invalid_header_lines() -> Vec<String> {
+    let line = |position: u32| format!("command invalid {position} -> {:02X}", CRC12.command(0, 2_u32.pow(31 - position)));
     (0..32).map(line).collect()
 }
 
 pub fn lines() -> Vec<String> {
-    [word_lines(&CRC12, cases_crc12()), word_lines(&FEC, cases_fec()), bad_header_lines()].concat()
+    [word_lines(&CRC12, cases_crc12()), word_lines(&FEC, cases_fec()), invalid_header_lines()].concat()
 }
 
 #[cfg(test)]

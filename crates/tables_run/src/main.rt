@@ -11,5 +11,5 @@ fn main() {
     parities::write_fec_multiblocks();
     words::write_crc12_words();
     words::write_fec_words();
-    words::write_bad_headers();
+    words::write_invalid_headers();
 }

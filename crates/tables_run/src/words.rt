@@ -1,14 +1,16 @@
 // Sync words made and read back, Tables 41 and 45, clauses 7.3.4 and 7.3.6: nothing, the mark, each bit of each field alone, everything,
 // and 16 cases a mode from a generator; then commands of which one header was invalid.
 use crate::text;
+use frame::modes;
+use frame::modes::Sync;
 use frame::sync;
 ghost use Prim.Native.Nat.{_<_, _≤_};
 
 // The parity and the command read from a sync word.
-fn write_read(mode: u8, word: u32) {
+fn write_read(kind: Sync, word: u32) {
     text::write(b"read ");
-    text::write_field(sync::parity(mode, word) as u64, 7);
-    text::write_hex(sync::command(mode, word, 0) as u64, 2);
+    text::write_field(sync::parity(kind, word) as u64, 7);
+    text::write_hex(sync::command(kind, word, 0) as u64, 2);
     text::write(b"\n");
 }
 
@@ -19,10 +21,12 @@ fn write_word(mode: u8, parity: u32, command: u32, mark: bool) {
     text::write_field(parity as u64, 7);
     text::write_field(command as u64, 2);
     text::write_field(mark as u64, 1);
-    let word = sync::word(mode, parity, command, mark);
+    let row = modes::row_of(mode);
+    let kind = row.sync;
+    let word = sync::word(kind, parity, command, mark);
     text::write(b"-> ");
     text::write_field(word as u64, 8);
-    write_read(mode, word);
+    write_read(kind, word);
 }
 
 // Each bit of a parity alone.
@@ -47,11 +51,11 @@ fn next(x: u64) -> u64 {
 }
 
 // A parity from a number of the generator: x / 2^19 in 12 bits, x / 2^5 in 26 bits.
-fn parity_from(mode: u8, x: u64) -> u32 {
-    if mode == 1 {
-        return (x / 0x20 % 0x400_0000) as u32;
+fn parity_from(kind: Sync, x: u64) -> u32 {
+    match kind {
+        Sync::Crc12 => (x / 0x8_0000 % 0x1000) as u32,
+        Sync::Fec => (x / 0x20 % 0x400_0000) as u32,
     }
-    (x / 0x8_0000 % 0x1000) as u32
 }
 
 // A command from a number of the generator: x / 2^24.
@@ -66,12 +70,14 @@ fn mark_from(x: u64) -> bool {
 
 // Cases from the numbers after 1: three for each, for its parity, its command and its mark.
 fn write_generated(mode: u8) {
+    let row = modes::row_of(mode);
+    let kind = row.sync;
     let mut x = 1;
     for _ in 0..16u32 {
         let first = next(x);
         let second = next(first);
         x = next(second);
-        let parity = parity_from(mode, first);
+        let parity = parity_from(kind, first);
         write_word(mode, parity, command_from(second), mark_from(x));
     }
 }
@@ -95,19 +101,19 @@ pub(crate) fn write_fec_words() {
 }
 
 // The command of a CRC-12 word of zeros in which the header at one position is invalid; position 0 is the highest bit.
-fn write_bad_header(position: u32)
+fn write_invalid_header(position: u32)
     requires { ⌜ position < 32 ⌝ }
 {
-    text::write(b"command bad ");
+    text::write(b"command invalid ");
     text::write_decimal(position as u64);
     text::write(b" -> ");
-    let command = sync::command(0, 0, 0x8000_0000u32 >> position);
+    let command = sync::command(Sync::Crc12, 0, 0x8000_0000u32 >> position);
     text::write_hex(command as u64, 2);
     text::write(b"\n");
 }
 
-pub(crate) fn write_bad_headers() {
+pub(crate) fn write_invalid_headers() {
     for position in 0..32u32 {
-        write_bad_header(position);
+        write_invalid_header(position);
     }
 }

@@ -6,10 +6,13 @@ use Rattle.tables_run.proofs.words.write_generated.Statement.{statement
 use Rattle.tables_run.proofs.words.write_generated.Tie as tie
 
 abbrev Inv-loop : tie.InvT-loop
-Inv-loop mode x₀ counter₀ x counter = counter ≤ 16
+Inv-loop mode kind x₀ counter₀ x counter = counter ≤ 16
 
 abbrev μ-loop : tie.MeasureT-loop
-μ-loop mode x₀ counter₀ x counter = 16 - counter
+μ-loop mode kind x₀ counter₀ x counter = 16 - counter
+
+row-of-requires : tie.Need-row-of-requires Inv-loop μ-loop
+row-of-requires c κs = search needs
 
 loop-holds : tie.Need-loop-holds Inv-loop μ-loop
 loop-holds c = search needs
@@ -53,6 +56,7 @@ write-generated-spec =
     (tie.spec
     Inv-loop
     μ-loop
+    row-of-requires
     loop-holds
     next-requires
     next-requires-2

@@ -1,9 +1,9 @@
--- `tables_run::words::write_bad_headers` meets its contract. The loop's invariant: `position` is at most 32.
+-- `tables_run::words::write_invalid_headers` meets its contract. The loop's invariant: `position` is at most 32.
 -- Assumes nothing.
 use borrow.Author.Needs.{needs}
 use Prim.Native.Nat.{_-_, _≤_}
-use Rattle.tables_run.proofs.words.write_bad_headers.Statement.{statement}
-use Rattle.tables_run.proofs.words.write_bad_headers.Tie as tie
+use Rattle.tables_run.proofs.words.write_invalid_headers.Statement.{statement}
+use Rattle.tables_run.proofs.words.write_invalid_headers.Tie as tie
 
 abbrev Inv-loop : tie.InvT-loop
 Inv-loop position₀ position = position ≤ 32
@@ -14,8 +14,8 @@ abbrev μ-loop : tie.MeasureT-loop
 loop-holds : tie.Need-loop-holds Inv-loop μ-loop
 loop-holds c = search needs
 
-write-bad-header-requires : tie.Need-write-bad-header-requires Inv-loop μ-loop
-write-bad-header-requires c κs = search needs
+write-invalid-header-requires : tie.Need-write-invalid-header-requires Inv-loop μ-loop
+write-invalid-header-requires c κs = search needs
 
 add-position : tie.Need-add-position Inv-loop μ-loop
 add-position c = search needs
@@ -29,14 +29,14 @@ loop-again c = search needs
 returns : tie.Need-returns Inv-loop μ-loop
 returns c = search needs
 
-pub write-bad-headers-spec : {M : Type 1} → statement M
-write-bad-headers-spec =
+pub write-invalid-headers-spec : {M : Type 1} → statement M
+write-invalid-headers-spec =
     tie.close
     (tie.spec
     Inv-loop
     μ-loop
     loop-holds
-    write-bad-header-requires
+    write-invalid-header-requires
     add-position
     loop-less
     loop-again
