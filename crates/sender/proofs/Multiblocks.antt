@@ -14,14 +14,15 @@ use Rattle.bits.specs.Choice.{pick, bitOf}
 use Rattle.bits.specs.Order.{bitAt, digit}
 use Rattle.bits.proofs.Octets.{bit-drop, bit-take, bit-append}
 use Rattle.parity.specs.Codeword.{parityOf}
-use Rattle.parity.proofs.Bursts.{Proper}
 use Rattle.parity.proofs.Codeword.{parity-lt}
-use Rattle.frame.specs.Modes.{Row, parity}
+use Rattle.frame.specs.declared.modes.Row.{Row}
+use Rattle.frame.specs.Modes.{parity, code}
 use Rattle.frame.specs.Headers.{headerOf}
 use Rattle.frame.specs.Lane.{laneOctets, dataBit, headerAt, syncBit, dataOctets, multiblockBit}
 use Rattle.frame.specs.SyncWord.{held, syncWord, readParity}
 use Rattle.scrambler.specs.Scrambling.{sent, historyAfter, scrambled}
-use Rattle.frame.proofs.SyncWord.{Stands, fieldAt, held-digit, only-parity, reads-parity}
+use Rattle.frame.proofs.Rows.{proper}
+use Rattle.frame.proofs.SyncWord.{all-stand, fieldAt, held-digit, only-parity, reads-parity}
 use Rattle.frame.proofs.Lane.{laneFrom, data-moved, header-at-moved, sync-moved, octets-moved, data-back, header-back, sync-back, octets-back, multiblock-bits}
 use Rattle.scrambler.proofs.Scrambling.{length-scrambled, scrambled-bit, scrambled-lt, sent-ext, sent-add, history-ext, history-add, history-none}
 use Rattle.sender.specs.declared.Sender.{Sender}
@@ -100,7 +101,7 @@ module _ (R : Row) (E : ℕ) (s : Sender) (user commands : List ℕ) (given : 25
   octets i = scrambled (own i) (before i .history) 256
 
   abbrev word : ℕ → ℕ
-  word i = syncWord R (before i .parity) (getD commands i 0) (bitOf (last E (before i)))
+  word i = syncWord (R .sync) (before i .parity) (getD commands i 0) (bitOf (last E (before i)))
 
   rest : ℕ → List ℕ
   rest i = lane R E (afterOne R E (before i) (own i)) (drop 256 (drop (256 * i) user)) (drop (suc i) commands)
@@ -130,11 +131,11 @@ module _ (R : Row) (E : ℕ) (s : Sender) (user commands : List ℕ) (given : 25
 
   -- its headers
   pub header-sent : (i t : ℕ) → i < length commands → t < 32
-      → headerAt (R .gap) (bitAt all) i t ≡ headerOf (held (before i .parity) (getD commands i 0) (bitOf (last E (before i))) (fieldAt R t))
+      → headerAt (R .gap) (bitAt all) i t ≡ headerOf (held (before i .parity) (getD commands i 0) (bitOf (last E (before i))) (fieldAt (R .sync) t))
   header-sent i t h l =
       header-at-moved (R .gap) (bitAt all) i t
       ∙ header-back (R .gap) (word i) (octets i) (laneFrom (R .gap) (bitAt all) i) (begins i h) t l
-      ∙ ap headerOf (held-digit R (before i .parity) (getD commands i 0) (bitOf (last E (before i))) t l)
+      ∙ ap headerOf (held-digit (R .sync) (before i .parity) (getD commands i 0) (bitOf (last E (before i))) t l)
 
   module _ (fits : s .history < 2 ^ 58) where
     pub data-sent : (i q : ℕ) → i < length commands → q < 2048 → dataBit (R .gap) (bitAt all) i q ≡ sent (bitAt user) (s .history) (2048 * i + q)
@@ -147,16 +148,16 @@ module _ (R : Row) (E : ℕ) (s : Sender) (user commands : List ℕ) (given : 25
         ∙ sym (sent-add (bitAt user) (s .history) (2048 * i) q)
 
   -- the parity it carries is that of the multiblock before
-  pub parity-sent : Stands R → Proper (R .code) → (i : ℕ) → suc i < length commands
-      → readParity R (syncBit (R .gap) (bitAt all) (suc i)) ≡ parityOf (R .code) (dataOctets (R .gap) (bitAt all) i)
-  parity-sent stands proper i h =
-      only-parity R (syncBit (R .gap) (bitAt all) (suc i)) (digit 32 (word (suc i))) (λ k l. sync-sent (suc i) _ h (stands .parities k l))
-      ∙ reads-parity R stands (before (suc i) .parity) (getD commands (suc i) 0) (bitOf (last E (before (suc i))))
-      ∙ ap (λ (x : ℕ). x % 2 ^ R .code .width) carried
-      ∙ mod-eq-of-lt (parity-lt (R .code) (proper .fits) (octets i))
-      ∙ ap (parityOf (R .code)) (sym back)
+  pub parity-sent : (i : ℕ) → suc i < length commands
+      → readParity (R .sync) (syncBit (R .gap) (bitAt all) (suc i)) ≡ parityOf (code (R .sync)) (dataOctets (R .gap) (bitAt all) i)
+  parity-sent i h =
+      only-parity (R .sync) (syncBit (R .gap) (bitAt all) (suc i)) (digit 32 (word (suc i))) (λ k l. sync-sent (suc i) _ h (all-stand (R .sync) .parities k l))
+      ∙ reads-parity (R .sync) (all-stand (R .sync)) (before (suc i) .parity) (getD commands (suc i) 0) (bitOf (last E (before (suc i))))
+      ∙ ap (λ (x : ℕ). x % 2 ^ code (R .sync) .width) carried
+      ∙ mod-eq-of-lt (parity-lt (code (R .sync)) (proper (R .sync) .fits) (octets i))
+      ∙ ap (parityOf (code (R .sync))) (sym back)
     where
-      carried : before (suc i) .parity ≡ parityOf (R .code) (octets i)
+      carried : before (suc i) .parity ≡ parityOf (code (R .sync)) (octets i)
       carried = ap (λ (x : Sender). x .parity) (before-next i (omega arith)) ∙ unfold afterOne in refl
 
       back : dataOctets (R .gap) (bitAt all) i ≡ octets i

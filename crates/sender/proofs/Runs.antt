@@ -9,7 +9,7 @@ use lib.ListN.{length, take, drop, length-append, length-drop}
 use lib.Seq.{drop-drop, drop-at, take-append-le, drop-append-le}
 use Rattle.bits.specs.Choice.{bitOf}
 use Rattle.scrambler.specs.Scrambling.{scrambled}
-use Rattle.frame.specs.Modes.{Row}
+use Rattle.frame.specs.declared.modes.Row.{Row}
 use Rattle.frame.specs.Lane.{laneOctets}
 use Rattle.frame.specs.SyncWord.{syncWord}
 use Rattle.frame.proofs.Sizes.{length-multiblock}
@@ -86,7 +86,7 @@ module _ (R : Row) (E : ℕ) where
 
   pub one-length : (s : Sender) (user : List ℕ) (c : ℕ) → length (sentOne R E s user c) ≡ laneOctets (R .gap)
   unfolding sentOne
-  one-length s user c = length-multiblock (R .gap) (syncWord R (s .parity) c (bitOf (last E s))) (scrambled user (s .history) 256)
+  one-length s user c = length-multiblock (R .gap) (syncWord (R .sync) (s .parity) c (bitOf (last E s))) (scrambled user (s .history) 256)
 
   pub lane-length : (s : Sender) (user commands : List ℕ) → length (lane R E s user commands) ≡ laneOctets (R .gap) * length commands
   unfolding lane

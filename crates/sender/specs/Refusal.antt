@@ -5,32 +5,30 @@ use Prim.Native.Nat.{ℕ, _*_, _/_, _%_, _^_}
 use lib.Dec.{ltb, eqb}
 use lib.ListN.{length}
 use Rattle.bits.specs.Refusals.{Line, _when_, refusalBy}
-use Rattle.parity.specs.Codeword.{Code}
-use Rattle.frame.specs.declared.modes.Sync.{Sync}
-use Rattle.frame.specs.Modes.{code, commandWidth, known, row, extentFits}
-use Rattle.frame.specs.Lane.{laneOctets}
+use Rattle.frame.specs.Modes.{known, row, numbersOf, extentFits}
 use Rattle.sender.specs.declared.Sender.{Sender}
 
--- each field of a state is in its range
-unfoldable pub stateFits : Sync → ℕ → Sender → Bool
-stateFits S E s = ltb (s .history) (2 ^ 58) && (ltb (s .parity) (2 ^ code S .width) && ltb (s .number) E)
+-- each field of a state is in its range, where parities are below a bound
+unfoldable pub stateFits : ℕ → ℕ → Sender → Bool
+stateFits parities E s = ltb (s .history) (2 ^ 58) && (ltb (s .parity) parities && ltb (s .number) E)
 
--- each command fits the sync word's
-unfoldable pub commandsFit : Sync → List ℕ → Bool
-commandsFit S [] = true
-commandsFit S (c ∷ commands) = ltb c (2 ^ commandWidth S) && commandsFit S commands
+-- each command is below a bound
+unfoldable pub commandsFit : ℕ → List ℕ → Bool
+commandsFit bound [] = true
+commandsFit bound (c ∷ commands) = ltb c bound && commandsFit bound commands
 
--- the table
+-- the table, by the mode's numbers and the multiblocks that the user octets make
 abbrev pub refusals : ℕ → ℕ → Sender → List ℕ → List ℕ → List ℕ → List Line
 refusals mode E s user commands lane =
+    let numbers = numbersOf (row mode) in
     let n = length user / 256 in
     1 when not (known mode)
     ∷ 2 when not (extentFits E)
-    ∷ 3 when not (stateFits (row mode .sync) E s)
+    ∷ 3 when not (stateFits (numbers .parities) E s)
     ∷ 4 when not (eqb (length user % 256) 0)
     ∷ 5 when ltb (row mode .most) n
-    ∷ 6 when not (eqb (length commands) n && commandsFit (row mode .sync) commands)
-    ∷ 7 when ltb (length lane) (laneOctets (row mode .gap) * n)
+    ∷ 6 when not (eqb (length commands) n && commandsFit (numbers .commands) commands)
+    ∷ 7 when ltb (length lane) (numbers .octets * n)
     ∷ []
 
 unfoldable pub refusalOf : ℕ → ℕ → Sender → List ℕ → List ℕ → List ℕ → ℕ

@@ -1,20 +1,17 @@
 // What a call is refused for: document 01, "Numbers of refusal". The lowest number is found first.
 ghost use mathlib.Core.Path.{_≡_};
 ghost use mathlib.Core.Bool.{_&&_};
-ghost use Prim.Native.Nat.{_^_};
 ghost use lib.Dec.{eqb};
 ghost use lib.ListN.{length};
-ghost use Rattle.parity.specs.Codeword.{Code};
-ghost use Rattle.frame.specs.Modes.{code, commandWidth, row, numbersOf};
+ghost use Rattle.frame.specs.Modes.{row, numbersOf};
 ghost use Rattle.sender.specs.Refusal.{stateFits, commandsFit, refusalOf};
 use crate::Sender;
 use frame::modes;
 use frame::modes::Numbers;
 
 // Whether each field of a state is in its range, where parities are below a bound.
-fn state_fits(mode: u8, parities: u32, e: u32, state: Sender) -> bool
-    requires { ⌜ parities ≡ 2 ^ code (row mode .sync) .width ⌝ }
-    ensures { λ r. ⌜ r ≡ stateFits (row mode .sync) e state ⌝ }
+fn state_fits(parities: u32, e: u32, state: Sender) -> bool
+    ensures { λ r. ⌜ r ≡ stateFits parities e state ⌝ }
 {
     if state.history >= 0x400_0000_0000_0000 {
         return false;
@@ -29,9 +26,8 @@ fn state_fits(mode: u8, parities: u32, e: u32, state: Sender) -> bool
 }
 
 // Whether each command is below a bound.
-fn each_fits(mode: u8, bound: u32, commands: &[u32]) -> bool
-    requires { ⌜ bound ≡ 2 ^ commandWidth (row mode .sync) ⌝ }
-    ensures { λ r. ⌜ r ≡ commandsFit (row mode .sync) (now (commands .entry)) ⌝ }
+fn each_fits(bound: u32, commands: &[u32]) -> bool
+    ensures { λ r. ⌜ r ≡ commandsFit bound (now (commands .entry)) ⌝ }
 {
     let mut i = 0;
     while i < commands.len() {
@@ -44,14 +40,13 @@ fn each_fits(mode: u8, bound: u32, commands: &[u32]) -> bool
 }
 
 // Whether there is one command for each multiblock, and each fits.
-fn commands_fit(mode: u8, bound: u32, commands: &[u32], count: usize) -> bool
-    requires { ⌜ bound ≡ 2 ^ commandWidth (row mode .sync) ⌝ }
-    ensures { λ r. ⌜ r ≡ (eqb (length (now (commands .entry))) count && commandsFit (row mode .sync) (now (commands .entry))) ⌝ }
+fn commands_fit(bound: u32, commands: &[u32], count: usize) -> bool
+    ensures { λ r. ⌜ r ≡ (eqb (length (now (commands .entry))) count && commandsFit bound (now (commands .entry))) ⌝ }
 {
     if commands.len() != count {
         return false;
     }
-    each_fits(mode, bound, commands)
+    each_fits(bound, commands)
 }
 
 // The lowest number that applies, or 0.
@@ -74,7 +69,7 @@ pub(crate) fn refusal_of(
     if !modes::extent_fits(e) {
         return 2;
     }
-    if !state_fits(mode, numbers.parities, e, state) {
+    if !state_fits(numbers.parities, e, state) {
         return 3;
     }
     if user.len() % 256 != 0 {
@@ -84,7 +79,7 @@ pub(crate) fn refusal_of(
     if count > most {
         return 5;
     }
-    if !commands_fit(mode, numbers.commands, commands, count) {
+    if !commands_fit(numbers.commands, commands, count) {
         return 6;
     }
     if numbers.octets * count > lane.len() {

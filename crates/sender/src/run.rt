@@ -5,7 +5,7 @@ ghost use lib.ListN.{length};
 ghost use Rattle.bits.specs.Choice.{pick};
 ghost use Rattle.bits.specs.Order.{octetsIn, laid};
 ghost use Rattle.parity.specs.Codeword.{parityOf};
-ghost use Rattle.frame.specs.Modes.{code, mostOfAll};
+ghost use Rattle.frame.specs.Modes.{code};
 ghost use Rattle.frame.specs.Lane.{laneOctets};
 ghost use Rattle.sender.specs.Lane.{sentOne, afterOne, lane as sentAll, after};
 use crate::Sender;
@@ -32,7 +32,7 @@ fn number_after(last: bool, next: u32) -> u32
 
 // The multiblock for 256 user octets, over the start of `lane`. Its sync word carries the parity of the one before.
 fn send_one(row: Row, e: u32, state: Sender, user: &[u8], command: u32, lane: &mut [u8]) -> Sender
-    requires { ⌜ (row .gap ≡ 0) × (length (now user) ≡ 256) × (laneOctets (row .gap) ≤ length (now lane)) × (state .number < e) × (e ≤ 256) ⌝ }
+    requires { ⌜ (row .gap ≡ 0) × (laneOctets (row .gap) ≤ length (now lane)) × (state .number < e) ⌝ }
     ensures { λ r. ⌜ r ≡ afterOne row e state (now (user .entry)) ⌝ }
     ensures { λ _. ⌜ now (lane .exit) ≡ laid (sentOne row e state (now (user .entry)) command) (now (lane .entry)) ⌝ }
 {
@@ -62,8 +62,7 @@ pub(crate) fn send_all(
     lane: &mut [u8],
 ) -> Sender
     requires { ⌜ (row .gap ≡ 0) × (size ≡ laneOctets (row .gap)) ⌝ }
-    requires { ⌜ (length (now commands) ≤ mostOfAll) × (256 * length (now commands) ≤ length (now user)) × (size * length (now commands) ≤ length (now lane)) ⌝ }
-    requires { ⌜ (start .number < e) × (e ≤ 256) ⌝ }
+    requires { ⌜ (256 * length (now commands) ≤ length (now user)) × (size * length (now commands) ≤ length (now lane)) × (start .number < e) ⌝ }
     ensures { λ r. ⌜ r ≡ after row e start (now (user .entry)) (now (commands .entry)) ⌝ }
     ensures { λ _. ⌜ now (lane .exit) ≡ laid (sentAll row e start (now (user .entry)) (now (commands .entry))) (now (lane .entry)) ⌝ }
 {

@@ -1,7 +1,5 @@
 -- `sender::refusal::state_fits` meets its contract.
 -- Assumes nothing.
-use borrow.Author.Needs.{needs}
-use mathlib.Core.Path.{sym}
 use borrow.Author.Tests.{le-ltb, lt-ltb}
 use Rattle.sender.specs.Refusal.{stateFits}
 use Rattle.sender.proofs.refusal.state_fits.Statement.{statement}
@@ -11,20 +9,17 @@ returns : tie.Need-returns
 unfolding stateFits
 returns c = simp (le-ltb _ _ (c .if1 .taken))
 
-parity-bound-requires : tie.Need-parity-bound-requires
-parity-bound-requires c κs = search needs
-
 returns-2 : tie.Need-returns-2
 unfolding stateFits
-returns-2 c = simp (lt-ltb _ _ (c .before .before .before .if1 .left), sym (c .before .before .parity-bound .ensures), le-ltb _ _ (c .if2 .taken))
+returns-2 c = simp (lt-ltb _ _ (c .before .before .if1 .left), le-ltb _ _ (c .if2 .taken))
 
 returns-3 : tie.Need-returns-3
 unfolding stateFits
-returns-3 c = simp (lt-ltb _ _ (c .before .before .before .before .before .if1 .left), sym (c .before .before .before .before .parity-bound .ensures), lt-ltb _ _ (c .before .before .if2 .left), le-ltb _ _ (c .if3 .taken))
+returns-3 c = simp (lt-ltb _ _ (c .before .before .before .before .if1 .left), lt-ltb _ _ (c .before .before .if2 .left), le-ltb _ _ (c .if3 .taken))
 
 returns-4 : tie.Need-returns-4
 unfolding stateFits
-returns-4 c = simp (lt-ltb _ _ (c .before .before .before .before .before .if1 .left), sym (c .before .before .before .before .parity-bound .ensures), lt-ltb _ _ (c .before .before .if2 .left), lt-ltb _ _ (c .if3 .left))
+returns-4 c = simp (lt-ltb _ _ (c .before .before .before .before .if1 .left), lt-ltb _ _ (c .before .before .if2 .left), lt-ltb _ _ (c .if3 .left))
 
 pub state-fits-spec : {M : Type 1} → statement M
-state-fits-spec = tie.close (tie.spec returns parity-bound-requires returns-2 returns-3 returns-4)
+state-fits-spec = tie.close (tie.spec returns returns-2 returns-3 returns-4)

@@ -6,20 +6,21 @@ use mathlib.Core.Path.{_≡_, ap}
 use native.Mathlib.Omega.{arith}
 use lib.ListN.{length, take, drop}
 use denote.Ref.{now}
-use Rattle.sender.proofs.Turns.{Held, held-none, held-more, held-all}
+use Rattle.sender.proofs.Turns.{place-within, part-room, Held, held-none, held-more, held-all}
 use Rattle.sender.proofs.run.send_all.Statement.{statement}
 use Rattle.sender.proofs.run.send_all.Tie as tie
 
 abbrev Inv-loop : tie.InvT-loop
-Inv-loop mode e user commands lane₀ count state₀ k₀ lane state k = (k ≤ length commands) × Held mode e state₀ user commands lane₀ k state lane
+Inv-loop row size e user commands lane₀ count state₀ k₀ lane state k = (k ≤ length commands) × Held row e state₀ user commands lane₀ k state lane
 
 abbrev μ-loop : tie.MeasureT-loop
-μ-loop mode e user commands lane₀ count state₀ k₀ lane state k = length commands - k
+μ-loop row size e user commands lane₀ count state₀ k₀ lane state k = length commands - k
 
 loop-holds : tie.Need-loop-holds Inv-loop μ-loop
 loop-holds c =
-    let a = c .before .before .before .args in
-    (search needs, held-none (a .mode) (a .e) (a .start) (now (a .user)) (now (a .commands)) (now (a .lane)) (c .before .before .before .pre .1 .0))
+    let start = c .before .before .before in
+    let a = start .args in
+    (search needs, held-none (a .row) (a .e) (a .start) (now (a .user)) (now (a .commands)) (now (a .lane)) (start .pre .1 .2))
 
 mul-from : tie.Need-mul-from Inv-loop μ-loop
 mul-from c = search needs
@@ -28,7 +29,12 @@ add-upto : tie.Need-add-upto Inv-loop μ-loop
 add-upto c = search needs
 
 mul-at : tie.Need-mul-at Inv-loop μ-loop
-mul-at c = search needs
+mul-at c =
+    let start = c .before .before .before .before .before in
+    let a = start .args in
+    let l = c .before .loop in
+    let place = place-within (a .size) (l .k) (length (now (a .commands))) (length (now (a .lane))) (c .loop-test .taken) (start .pre .1 .1) in
+    omega (arith, place, l .inv .1 .long)
 
 sub-send-one : tie.Need-sub-send-one Inv-loop μ-loop
 sub-send-one c = search needs
@@ -46,16 +52,31 @@ shared-slice-read-send-one : tie.Need-shared-slice-read-send-one Inv-loop μ-loo
 shared-slice-read-send-one c = search needs
 
 sub-send-one-2 : tie.Need-sub-send-one-2 Inv-loop μ-loop
-sub-send-one-2 c = search needs
+sub-send-one-2 c =
+    let start = c .before .before .before .before .before .before .before in
+    let a = start .args in
+    let l = c .before .before .before .loop in
+    let place = place-within (a .size) (l .k) (length (now (a .commands))) (length (now (a .lane))) (c .before .before .loop-test .taken) (start .pre .1 .1) in
+    omega (arith, place, l .inv .1 .long)
 
 part-send-one-start-2 : tie.Need-part-send-one-start-2 Inv-loop μ-loop
-part-send-one-start-2 c = search needs
+part-send-one-start-2 c =
+    let start = c .before .before .before .before .before .before .before in
+    let a = start .args in
+    let l = c .before .before .before .loop in
+    let place = place-within (a .size) (l .k) (length (now (a .commands))) (length (now (a .lane))) (c .before .before .loop-test .taken) (start .pre .1 .1) in
+    omega (arith, place, l .inv .1 .long)
 
 part-send-one-end-2 : tie.Need-part-send-one-end-2 Inv-loop μ-loop
 part-send-one-end-2 c = search needs
 
 send-one-requires : tie.Need-send-one-requires Inv-loop μ-loop
-send-one-requires c κs = search needs
+send-one-requires c κs =
+    let start = c .before .before .before .before .before .before .before .before in
+    let a = start .args in
+    let l = c .before .before .before .before .loop in
+    let place = place-within (a .size) (l .k) (length (now (a .commands))) (length (now (a .lane))) (c .before .before .before .loop-test .taken) (start .pre .1 .1) in
+    (start .pre .0 .0, part-room (a .row) (a .size) (a .size * l .k) (l .lane) (start .pre .0 .1) (omega (arith, place, l .inv .1 .long)), l .inv .1 .number)
 
 add-k : tie.Need-add-k Inv-loop μ-loop
 add-k c = search needs
@@ -65,12 +86,13 @@ loop-less c = search needs
 
 loop-again : tie.Need-loop-again Inv-loop μ-loop
 loop-again c =
-    let a = c .before .before .before .before .before .before .before .before .before .before .before .args in
+    let start = c .before .before .before .before .before .before .before .before .before .before .before in
+    let a = start .args in
     let l = c .before .before .before .before .before .before .before .loop in
     let one = c .before .before .send-one in
     let w : 256 * l .k + 256 - 256 * l .k ≡ 256 = omega arith in (
       search needs,
-      held-more (a .mode) (a .e) (a .start) (now (a .user)) (now (a .commands)) (now (a .lane)) (l .k) (l .state) (l .lane) (c .before .before .before .before .before .before .loop-test .taken) (c .before .before .before .before .before .before .before .before .before .before .before .pre .0 .2) (l .inv .1)
+      held-more (a .row) (a .size) (start .pre .0 .1) (a .e) (a .start) (now (a .user)) (now (a .commands)) (now (a .lane)) (l .k) (l .state) (l .lane) (c .before .before .before .before .before .before .loop-test .taken) (start .pre .1 .1) (l .inv .1)
           _ (one .result) _ (ap (λ (n : ℕ). take n (drop (256 * l .k) (now (a .user)))) w) (one .kept .1 .1 .1 .1 .1 .0) (one .ensures .0) (one .ensures .1),
     )
 
@@ -81,7 +103,7 @@ returns : tie.Need-returns Inv-loop μ-loop
 returns c =
     let a = c .before .before .before .before .before .args in
     let l = c .before .loop in
-    held-all (a .mode) (a .e) (a .start) (now (a .user)) (now (a .commands)) (now (a .lane)) (l .k) (l .state) (l .lane) (omega arith) (l .inv .1)
+    held-all (a .row) (a .e) (a .start) (now (a .user)) (now (a .commands)) (now (a .lane)) (l .k) (l .state) (l .lane) (omega arith) (l .inv .1)
 
 pub send-all-spec : {M : Type 1} → statement M
 send-all-spec =

@@ -1,14 +1,10 @@
 -- `sender::run::send_one` meets its contract.
 -- Assumes nothing.
 use borrow.Author.Needs.{needs}
-use mathlib.Core.Path.{refl}
 use denote.Ref.{now}
 use Rattle.sender.proofs.Turns.{sent-one}
 use Rattle.sender.proofs.run.send_one.Statement.{statement}
 use Rattle.sender.proofs.run.send_one.Tie as tie
-
-slice-aggregate-scramble-multiblock : tie.Need-slice-aggregate-scramble-multiblock
-slice-aggregate-scramble-multiblock c = search needs
 
 scramble-multiblock-requires : tie.Need-scramble-multiblock-requires
 scramble-multiblock-requires c κs = search needs
@@ -25,9 +21,6 @@ add-next c = search needs
 word-requires : tie.Need-word-requires
 word-requires c κs = search needs
 
-slice-aggregate-write : tie.Need-slice-aggregate-write
-slice-aggregate-write c = search needs
-
 write-requires : tie.Need-write-requires
 write-requires c κs = search needs
 
@@ -39,26 +32,23 @@ same-length c = search needs
 
 returns : tie.Need-returns
 returns c =
-    let a = c .before .before .before .before .before .before .before .before .before .before .before .before .before .before .before .args in
-    let pre = c .before .before .before .before .before .before .before .before .before .before .before .before .before .before .before .pre in
+    let start = c .before .before .before .before .before .before .before .before .before .before .before .before .before .before in
+    let a = start .args in
     let turned = c .before .before .before .before .before .before .before .before .before .before .before .scramble-multiblock in
     let own = c .before .before .before .before .before .before .before .before .parity-of in
     let word = c .before .before .before .before .before .before .word in
-    let written = c .before .before .before .write in
-    sent-one (a .mode) (a .e) (a .state) (now (a .user)) _ _ (now (a .lane)) _ (a .command) (turned .result .refusal) (turned .result .history) (word .result) (written .result) (own .result) (c .number-after .result)
-    (pre .0) refl (pre .1) (turned .ensures .0) (turned .ensures .1 .0) (turned .ensures .1 .1) (word .ensures) (written .ensures .0) (written .ensures .1) (own .ensures) (c .number-after .ensures)
+    sent-one (a .row) (start .pre .0) (a .e) (a .state) (now (a .user)) (turned .result .blocks) (now (a .lane)) _ (a .command) (turned .result .history) (word .result) (own .result) (c .number-after .result) (start .pre .1)
+    (turned .ensures .0) (turned .ensures .1) (word .ensures) (c .before .before .before .write .ensures) (own .ensures) (c .number-after .ensures)
 
 pub send-one-spec : {M : Type 1} → statement M
 send-one-spec =
     tie.close
     (tie.spec
-    slice-aggregate-scramble-multiblock
     scramble-multiblock-requires
     slice-aggregate-parity-of
     parity-of-requires
     add-next
     word-requires
-    slice-aggregate-write
     write-requires
     number-after-requires
     same-length
