@@ -10,12 +10,14 @@ use lib.Seq.{drop-at}
 use Rattle.bits.specs.Order.{bitAt, laid}
 use Rattle.bits.proofs.Octets.{bit-drop, bit-append}
 use Rattle.bits.proofs.Laid.{taken-back}
-use Rattle.frame.specs.Modes.{Row, row, parity, command}
+use Rattle.frame.specs.declared.modes.Row.{Row}
+use Rattle.frame.specs.Modes.{row, parity, command}
 use Rattle.frame.specs.Lane.{laneOctets, headerPlace, dataPlace, dataBit, headerAt, syncBit, invalidBit}
 use Rattle.frame.specs.SyncWord.{readParity, flaggedCommand}
-use Rattle.frame.proofs.SyncWord.{Stands, place, row-stands, only-parity, only-flagged}
+use Rattle.frame.proofs.SyncWord.{Stands, place, all-stand, only-parity, only-flagged}
 use Rattle.frame.proofs.Lane.{laneFrom, same-sync, same-invalid}
 use Rattle.frame.proofs.Places.{data-is, header-same}
+use Rattle.frame.proofs.Sizes.{octets-some}
 use Rattle.receiver.specs.declared.Receiver.{Receiver}
 use Rattle.receiver.specs.Release.{Release, Step, run}
 use Rattle.receiver.specs.Entry.{Done, octetsOut, column, laidOut}
@@ -24,7 +26,7 @@ use Rattle.receiver.proofs.Answers.{all-run, all-whole}
 use Rattle.receiver.proofs.Buffers.{column-length}
 use Rattle.receiver.proofs.Numbered.{octets-append, column-append, none-out, none-column, all-full}
 use Rattle.demands.specs.Calls.{Receiving, receiving, laneHeard, AllHeard, octetsReleased, statusesReleased}
-use Rattle.demands.proofs.Places.{octets-some, data-inside, header-inside}
+use Rattle.demands.proofs.Places.{data-inside, header-inside}
 
 abbrev status : Release → ℕ
 status r = r .status
@@ -57,8 +59,8 @@ module _ (mode : ℕ) where
     prefix : (s : Receiver) → run R (bitAt (a ++ b)) s k ≡ run R (bitAt a) s k
     prefix s = same-reading R (bitAt (a ++ b)) (bitAt a) s k same-data same-parity same-command
       where
-        stands : Stands R
-        stands = row-stands mode
+        stands : Stands (R .sync)
+        stands = all-stand (row mode .sync)
 
         same-data : (m q : ℕ) → m < k → q < 2048 → dataBit (R .gap) (bitAt (a ++ b)) m q ≡ dataBit (R .gap) (bitAt a) m q
         same-data m q h l =
@@ -67,15 +69,15 @@ module _ (mode : ℕ) where
         sync : (m t : ℕ) → m < k → t < 32 → syncBit (R .gap) (bitAt (a ++ b)) m t ≡ syncBit (R .gap) (bitAt a) m t
         sync m t h l = same-sync (R .gap) (bitAt (a ++ b)) (bitAt a) m t (same-header m t h l)
 
-        same-parity : (m : ℕ) → m < k → readParity R (syncBit (R .gap) (bitAt (a ++ b)) m) ≡ readParity R (syncBit (R .gap) (bitAt a) m)
-        same-parity m h = only-parity R _ _ (λ j l. sync m (place R (parity j)) h (stands .parities j l))
+        same-parity : (m : ℕ) → m < k → readParity (R .sync) (syncBit (R .gap) (bitAt (a ++ b)) m) ≡ readParity (R .sync) (syncBit (R .gap) (bitAt a) m)
+        same-parity m h = only-parity (R .sync) _ _ (λ j l. sync m (place (R .sync) (parity j)) h (stands .parities j l))
 
         same-command : (m : ℕ) → m < k
-            → flaggedCommand R (syncBit (R .gap) (bitAt (a ++ b)) m) (invalidBit (R .gap) (bitAt (a ++ b)) m) ≡ flaggedCommand R (syncBit (R .gap) (bitAt a) m) (invalidBit (R .gap) (bitAt a) m)
+            → flaggedCommand (R .sync) (syncBit (R .gap) (bitAt (a ++ b)) m) (invalidBit (R .gap) (bitAt (a ++ b)) m) ≡ flaggedCommand (R .sync) (syncBit (R .gap) (bitAt a) m) (invalidBit (R .gap) (bitAt a) m)
         same-command m h =
-            only-flagged R (syncBit (R .gap) (bitAt (a ++ b)) m) (syncBit (R .gap) (bitAt a) m) (invalidBit (R .gap) (bitAt (a ++ b)) m) (invalidBit (R .gap) (bitAt a) m)
-            (λ j l. sync m (place R (command j)) h (stands .commands j l))
-            (λ j l. same-invalid (R .gap) (bitAt (a ++ b)) (bitAt a) m (place R (command j)) (same-header m (place R (command j)) h (stands .commands j l)))
+            only-flagged (R .sync) (syncBit (R .gap) (bitAt (a ++ b)) m) (syncBit (R .gap) (bitAt a) m) (invalidBit (R .gap) (bitAt (a ++ b)) m) (invalidBit (R .gap) (bitAt a) m)
+            (λ j l. sync m (place (R .sync) (command j)) h (stands .commands j l))
+            (λ j l. same-invalid (R .gap) (bitAt (a ++ b)) (bitAt a) m (place (R .sync) (command j)) (same-header m (place (R .sync) (command j)) h (stands .commands j l)))
 
     -- a run over both
     both : (s : Receiver) (n : ℕ) → run R (bitAt (a ++ b)) s (k + n) ≡ then (run R (bitAt a) s k) (run R (bitAt b) (run R (bitAt a) s k .state) n)

@@ -7,4 +7,5 @@ pub mod Sent
 pub mod Delivered
 pub mod Released
 pub mod Locks
+pub mod Dozen
 pub mod Promised

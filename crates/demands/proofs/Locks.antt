@@ -1,40 +1,49 @@
 -- The headers of a lane that our sender made are those of an undamaged CRC-12 lane, so that the locks take them in time: document 01, "Lock
 -- tables". Past the lane's end they are gone on with as if commands and parities were 0. Assumes nothing.
-use mathlib.Core.Path.{_≡_, refl, sym, ap, ap₂, _∙_, subst}
-use mathlib.Core.Bool.{Bool}
+use mathlib.Core.Path.{_≡_, refl, sym, ap, _∙_, subst}
+use mathlib.Core.Bool.{true}
 use mathlib.Core.List.{List}
-use Prim.Native.Nat.{ℕ, zero, suc, _+_, _-_, _*_, _/_, _%_, _<_, _≤_}
-use native.Mathlib.Nat.{mod-lt}
+use Prim.Native.Nat.{ℕ, _+_, _-_, _*_, _/_, _%_, _<_, _≤_}
+use native.Mathlib.Nat.{mod-lt, mul-assoc, le-of-mul-le-mul-left}
 use native.Mathlib.Omega.{arith}
 use borrow.Author.Tests.{eq-eqb, ne-eqb}
 use lib.Dec.{eqb}
 use lib.ListN.{length, getD}
 use Rattle.bits.specs.Choice.{bitOf}
 use Rattle.bits.specs.Order.{bitAt}
-use Rattle.frame.specs.Modes.{Row, Field, fixed, row}
+use Rattle.frame.specs.declared.modes.Sync.{Sync}
+use Rattle.frame.specs.declared.modes.Sync.the-variants.{Crc12}
+use Rattle.frame.specs.declared.modes.Row.{Row}
+use Rattle.frame.specs.Modes.{known, row}
 use Rattle.frame.specs.Headers.{carries, headerOf}
-use Rattle.frame.specs.Lane.{headerAt}
+use Rattle.frame.specs.Lane.{blockWidth, laneOctets}
 use Rattle.frame.specs.SyncWord.{held}
 use Rattle.frame.proofs.SyncWord.{fieldAt, held-lt}
 use Rattle.frame.proofs.Lane.{carried, header-valid}
-use Rattle.frame.proofs.Sizes.{row-octets}
+use Rattle.frame.proofs.Rows.{extent-fits}
+use Rattle.frame.proofs.Sizes.{width-some, octets-blocks}
 use Rattle.sender.specs.declared.Sender.{Sender}
-use Rattle.sender.specs.Lane.{last, lane}
+use Rattle.sender.specs.Lane.{lane, last}
 use Rattle.sender.proofs.States.{Fits}
 use Rattle.sender.proofs.Runs.{lane-length}
 use Rattle.sender.proofs.Multiblocks.{before, number-before, header-sent}
-use Rattle.lock.specs.Run.{ran}
+use Rattle.lock.specs.declared.Lock.{Lock}
+use Rattle.lock.specs.Run.{stateAfter}
 use Rattle.lock.specs.Stream.{Crc12Headers, Held}
 use Rattle.lock.proofs.Words.{words-fit}
-use Rattle.lock.proofs.Runs.{ran-same}
+use Rattle.lock.proofs.Runs.{state-same}
 use Rattle.lock.proofs.Bound.{locked-in-time}
 use Rattle.demands.specs.Calls.{Sending, userOctets, AllSent, laneSent}
 use Rattle.demands.specs.Promises.{headersFrom}
 use Rattle.demands.proofs.Sent.{OneLane, one-lane, allCommands}
 
-module _ (E : ℕ) (s : Sender) (user commands : List ℕ) (given : 256 * length commands ≤ length user) (fits : Fits (row 0) E s) (some : 1 ≤ E) (few : E ≤ 256) (p : ℕ) where
+module _ (mode E : ℕ) (is-known : known mode ≡ true) (crc : row mode .sync ≡ Crc12) (s : Sender) (user commands : List ℕ)
+    (given : 256 * length commands ≤ length user) (fits : Fits (row mode) E s) (some : 1 ≤ E) (few : E ≤ 256) (p : ℕ) where
+  abbrev R : Row
+  R = row mode
+
   abbrev state : ℕ → Sender
-  state i = before (row 0) E s user commands given i
+  state i = before R E s user commands given i
 
   -- the lane's first multiblock has the sender's number, so that all are counted from there
   start : ℕ
@@ -46,11 +55,11 @@ module _ (E : ℕ) (s : Sender) (user commands : List ℕ) (given : 256 * length
   sync : ℕ → ℕ
   sync x =
       let m = (x + start) / 32 in
-      held (state (m - s .number) .parity) (getD commands (m - s .number) 0) (mark m) (fieldAt (row 0) ((x + start) % 32))
+      held (state (m - s .number) .parity) (getD commands (m - s .number) 0) (mark m) (fieldAt Crc12 ((x + start) % 32))
 
   sync-lt : (x : ℕ) → sync x < 2
   unfolding sync
-  sync-lt x = held-lt _ _ _ (fieldAt (row 0) ((x + start) % 32))
+  sync-lt x = held-lt _ _ _ (fieldAt Crc12 ((x + start) % 32))
 
   undamaged : Crc12Headers E start (λ x. headerOf (sync x))
   unfolding sync mark
@@ -64,7 +73,7 @@ module _ (E : ℕ) (s : Sender) (user commands : List ℕ) (given : 256 * length
   }
 
   -- where the lane has a header, it is this one
-  own : (x : ℕ) → p + x < 32 * length commands → headersFrom (lane (row 0) E s user commands) p x ≡ headerOf (sync x)
+  own : (x : ℕ) → p + x < 32 * length commands → headersFrom (R .gap) (lane R E s user commands) p x ≡ headerOf (sync x)
   unfolding sync mark start
   own x h =
       let m = (p + x) / 32 in
@@ -72,21 +81,28 @@ module _ (E : ℕ) (s : Sender) (user commands : List ℕ) (given : 256 * length
       let there : (x + (p + 32 * s .number)) / 32 ≡ s .number + m = omega arith in
       let counted : (x + (p + 32 * s .number)) / 32 - s .number ≡ m = omega arith in
       let position : (x + (p + 32 * s .number)) % 32 ≡ t = omega arith in
-      header-sent (row 0) E s user commands given m t (omega arith) (mod-lt (p + x) (omega arith))
-      ∙ rw (counted, position, there, ← number-before (row 0) E s user commands given (fits .number) m (omega arith)) refl
+      header-sent R E s user commands given m t (omega arith) (mod-lt (p + x) (omega arith))
+      ∙ ap (λ (S : Sync). headerOf (held (state m .parity) (getD commands m 0) (bitOf (last E (state m))) (fieldAt S t))) crc
+      ∙ rw (counted, position, there, ← number-before R E s user commands given (fits .number) m (omega arith)) refl
 
-  pub held-in-time : (n : ℕ) → p + n ≤ 32 * length commands → 95 + 128 * E ≤ n → Held (ran 0 E (headersFrom (lane (row 0) E s user commands) p) n)
+  pub held-in-time : (n : ℕ) → p + n ≤ 32 * length commands → 95 + 128 * E ≤ n → Held (stateAfter mode E (headersFrom (R .gap) (lane R E s user commands) p) n)
   held-in-time n inside h =
-      subst (λ (x : _). Held x) (sym (ran-same 0 E (headersFrom (lane (row 0) E s user commands) p) (λ x. headerOf (sync x)) n (λ x l. own x (omega arith))))
-      (locked-in-time 0 E start (λ x. headerOf (sync x)) (omega arith) some few undamaged n h)
+      subst (λ (x : Lock). Held x) (sym (state-same mode E (headersFrom (R .gap) (lane R E s user commands) p) (λ x. headerOf (sync x)) n (λ x l. own x (omega arith))))
+      (locked-in-time mode E start (λ x. headerOf (sync x)) is-known (extent-fits E some few) undamaged n h)
 
-pub locks-in-time : (E : ℕ) (s : Sender) (calls : List Sending) → AllSent 0 E s calls → (p n : ℕ) → 66 * (p + n) ≤ 8 * length (laneSent 0 E s calls) → 95 + 128 * E ≤ n
-    → Held (ran 0 E (headersFrom (laneSent 0 E s calls) p) n)
-locks-in-time E s calls h p n inside l =
-    let one = one-lane 0 E s calls h in
+pub locks-in-time : (mode E : ℕ) → known mode ≡ true → row mode .sync ≡ Crc12 → (s : Sender) (calls : List Sending) → AllSent mode E s calls
+    → (p n : ℕ) → blockWidth (row mode .gap) * (p + n) ≤ 8 * length (laneSent mode E s calls) → 95 + 128 * E ≤ n
+    → Held (stateAfter mode E (headersFrom (row mode .gap) (laneSent mode E s calls) p) n)
+locks-in-time mode E is-known crc s calls h p n inside l =
+    let one = one-lane mode E s calls h in
     let user = userOctets calls in
     let commands = allCommands calls in
-    let long : length (laneSent 0 E s calls) ≡ 264 * length commands = ap length (one .made) ∙ lane-length (row 0) E s user commands ∙ ap (λ (x : ℕ). x * length commands) (row-octets 0) in
+    let w = blockWidth (row mode .gap) in
+    let L = laneOctets (row mode .gap) in
+    let long : length (laneSent mode E s calls) ≡ L * length commands = ap length (one .made) ∙ lane-length (row mode) E s user commands in
+    let all : 8 * length (laneSent mode E s calls) ≡ w * (32 * length commands) =
+    ap (λ (x : ℕ). 8 * x) long ∙ sym (mul-assoc 8 L (length commands)) ∙ ap (λ (x : ℕ). x * length commands) (octets-blocks (row mode .gap)) ∙ mul-assoc w 32 (length commands) in
+    let within : p + n ≤ 32 * length commands = le-of-mul-le-mul-left (subst (λ (x : ℕ). w * (p + n) ≤ x) all inside) (width-some (row mode .gap)) in
     let ready = one .ready (omega arith) in
-    subst (λ (x : List ℕ). Held (ran 0 E (headersFrom x p) n)) (sym (one .made))
-    (held-in-time E s user commands (omega (arith, one .given)) (ready .0) (ready .1) (ready .2) p n (omega arith) l)
+    subst (λ (x : List ℕ). Held (stateAfter mode E (headersFrom (row mode .gap) x p) n)) (sym (one .made))
+    (held-in-time mode E is-known crc s user commands (omega (arith, one .given)) (ready .0) (ready .1) (ready .2) p n within l)

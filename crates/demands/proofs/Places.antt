@@ -4,9 +4,10 @@ use mathlib.Core.Path.{_≡_, ap, _∙_}
 use Prim.Native.Nat.{ℕ, suc, _+_, _-_, _*_, _/_, _%_, _<_, _≤_}
 use native.Mathlib.Nat.{mul-add, mul-le-mul-left}
 use native.Mathlib.Omega.{arith}
-use Rattle.frame.specs.Modes.{Row}
+use Rattle.frame.specs.declared.modes.Row.{Row}
+use Rattle.frame.specs.Modes.{code}
 use Rattle.frame.specs.Lane.{laneOctets, headerPlace, dataPlace}
-use Rattle.frame.proofs.SyncWord.{Stands, parityPlace, parityPlace-lt, places-between, rank-le-place}
+use Rattle.frame.proofs.SyncWord.{Stands, all-stand, parityPlace, parityPlace-lt, places-between, rank-le-place}
 use Rattle.frame.proofs.Places.{header-form, data-form, start-form}
 
 -- a place as a number and a multiple of the gap
@@ -32,10 +33,6 @@ near g a b c e x y hx hy h k =
     let n : g * (b + 448) ≡ g * b + g * 448 = mul-add g b 448 in
     omega arith
 
--- a multiblock has some octets
-pub octets-some : (g : ℕ) → 0 < laneOctets g
-octets-some g = let e = start-form g 1 in omega arith
-
 -- what a multiblock has stands before the next one
 pub data-inside : (g m q : ℕ) → q < 2048 → dataPlace g m q < 8 * laneOctets g * suc m
 data-inside g m q h =
@@ -52,9 +49,12 @@ header-inside g m t h =
 -- bit x of the lane has a part in position c of the codeword of multiblock i
 pub data At (R : Row) (i c x : ℕ) : Type 0 where
   in-data : c < 2048 → x ≡ dataPlace (R .gap) i c → At R i c x
-  in-head : (r : ℕ) → c ≡ 2048 + r → r < R .code .width → headerPlace (R .gap) (suc i) (parityPlace R r) ≤ x → x ≤ headerPlace (R .gap) (suc i) (parityPlace R r) + 1 → At R i c x
+  in-head : (r : ℕ) → c ≡ 2048 + r → r < code (R .sync) .width → headerPlace (R .gap) (suc i) (parityPlace (R .sync) r) ≤ x → x ≤ headerPlace (R .gap) (suc i) (parityPlace (R .sync) r) + 1 → At R i c x
 
-module _ (R : Row) (o : Stands R) (i : ℕ) where
+module _ (R : Row) (i : ℕ) where
+  o : Stands (R .sync)
+  o = all-stand (R .sync)
+
   -- further apart in the lane than in the codeword
   pub expanding : (c d x y : ℕ) → c < d → At R i c x → At R i d y → x + (d - c) ≤ y
   expanding c d x y l (in-data hc ex) (in-data hd ey) =
@@ -63,16 +63,16 @@ module _ (R : Row) (o : Stands R) (i : ℕ) where
       (omega (arith, data-form g i c)) (omega (arith, data-form g i d)) (omega arith) (omega arith)
   expanding c d x y l (in-data hc ex) (in-head r ed hr lo hi) =
       let g = R .gap in
-      let t = parityPlace R r in
-      let s : r ≤ t = rank-le-place R o r hr in
+      let t = parityPlace (R .sync) r in
+      let s : r ≤ t = rank-le-place (R .sync) o r hr in
       far g (dataBase i c) (dataGaps i c) (headerBase (suc i) t) (gaps (suc i) t) (d - c) x y
       (omega (arith, data-form g i c)) (omega (arith, header-form g (suc i) t)) (omega arith) (omega arith)
   expanding c d x y l (in-head r ec hr lo hi) (in-data hd ey) = absurd (omega arith)
   expanding c d x y l (in-head r ec hr lo hi) (in-head s ed hs lo2 hi2) =
       let g = R .gap in
-      let t = parityPlace R r in
-      let u = parityPlace R s in
-      let a : t + (s - r) ≤ u = places-between R o r s (omega arith) hs in
+      let t = parityPlace (R .sync) r in
+      let u = parityPlace (R .sync) s in
+      let a : t + (s - r) ≤ u = places-between (R .sync) o r s (omega arith) hs in
       far g (headerBase (suc i) t + 1) (gaps (suc i) t) (headerBase (suc i) u) (gaps (suc i) u) (d - c) x y
       (omega (arith, header-form g (suc i) t)) (omega (arith, header-form g (suc i) u)) (omega arith) (omega arith)
 
@@ -83,7 +83,7 @@ module _ (R : Row) (o : Stands R) (i : ℕ) where
       (omega arith) (omega (arith, data-form g i c)) (omega arith) (omega arith) in omega arith
   first-place c x (in-head r ec hr lo hi) =
       let g = R .gap in
-      let t = parityPlace R r in
+      let t = parityPlace (R .sync) r in
       let z = far g (headerBase i 0 + 2) (gaps i 0) (headerBase (suc i) t) (gaps (suc i) t) 0 (headerBase i 0 + 2 + g * (gaps i 0)) x
       (omega arith) (omega (arith, header-form g (suc i) t)) (omega arith) (omega arith) in omega arith
 
@@ -94,8 +94,8 @@ module _ (R : Row) (o : Stands R) (i : ℕ) where
       (omega (arith, data-form g i c)) (omega arith) (omega arith) (omega arith) in omega arith
   last-place c x (in-head r ec hr lo hi) =
       let g = R .gap in
-      let t = parityPlace R r in
-      let s : t < 32 = parityPlace-lt R o r hr in
+      let t = parityPlace (R .sync) r in
+      let s : t < 32 = parityPlace-lt (R .sync) o r hr in
       let z = far g (headerBase (suc i) t + 1) (gaps (suc i) t) (headerBase (suc i) 31 + 1) (gaps (suc i) 31) 0 x (headerBase (suc i) 31 + 1 + g * (gaps (suc i) 31))
       (omega (arith, header-form g (suc i) t)) (omega arith) (omega arith) (omega arith) in omega arith
 

@@ -8,11 +8,11 @@ use lib.Bits.{bitXor}
 use lib.ListN.{length, getD}
 use Rattle.bits.specs.Order.{bitAt}
 use Rattle.bits.proofs.Numbers.{bitAt-lt}
-use Rattle.frame.specs.Modes.{Row, row}
+use Rattle.frame.specs.declared.modes.Row.{Row}
+use Rattle.frame.specs.Modes.{row}
 use Rattle.frame.specs.Lane.{laneOctets}
 use Rattle.frame.proofs.Lane.{laneFrom}
-use Rattle.frame.proofs.SyncWord.{row-stands}
-use Rattle.frame.proofs.Sizes.{row-proper}
+use Rattle.frame.proofs.Sizes.{octets-some}
 use Rattle.sender.proofs.Runs.{lane-length}
 use Rattle.receiver.specs.Release.{Release, fresh, releaseAt, run}
 use Rattle.receiver.proofs.Afresh.{all-but-one}
@@ -22,7 +22,6 @@ use Rattle.demands.specs.Calls.{userOctets, laneSent, laneHeard}
 use Rattle.demands.specs.Transfer.{Transfer, flips, DamagedBy, releases, released, status}
 use Rattle.demands.specs.Damage.{Pairwise}
 use Rattle.demands.proofs.Pairs.{pairs}
-use Rattle.demands.proofs.Places.{octets-some}
 use Rattle.demands.proofs.Heard.{AllRun, all-calls}
 use Rattle.demands.proofs.Sent.{OneLane, one-lane, allCommands, Sends, sends}
 use Rattle.demands.proofs.Delivered.{Lanes}
@@ -69,8 +68,6 @@ module _ {mode E : ℕ} (t : Transfer mode E) where
   -- a transfer's two lanes, where two multiblocks are no longer than the clear bits between bursts
   abbrev pub lanes : (limit clear : ℕ) → 0 < limit → 16 * laneOctets (R .gap) ≤ clear → DamagedBy t limit clear → Lanes R
   lanes limit clear some wide damaged = record {
-    stands = row-stands mode;
-    proper = row-proper mode;
     user = userOctets (t .sendings);
     history = t .start .history;
     first = t .from;
@@ -91,7 +88,7 @@ module _ {mode E : ℕ} (t : Transfer mode E) where
 
   out-length : length out ≡ count - 1
   unfolding out
-  out-length = all-but-one mode after count
+  out-length = all-but-one R after count
 
   -- all but the last were released
   pub all-released : (i : ℕ) → i < releases t → suc i < count

@@ -11,12 +11,13 @@ use Rattle.bits.proofs.Numbers.{bitAt-lt}
 use Rattle.bits.proofs.Laid.{taken-back}
 use Rattle.scrambler.specs.Scrambling.{sent}
 use Rattle.parity.specs.Codeword.{parityOf}
-use Rattle.frame.specs.Modes.{Row, row, parity}
+use Rattle.frame.specs.declared.modes.Row.{Row}
+use Rattle.frame.specs.Modes.{code, row, parity}
 use Rattle.frame.specs.Lane.{laneOctets, dataBit, syncBit, dataOctets}
 use Rattle.frame.specs.SyncWord.{readParity}
-use Rattle.frame.proofs.SyncWord.{row-stands, place, only-parity}
+use Rattle.frame.proofs.SyncWord.{all-stand, place, only-parity}
 use Rattle.frame.proofs.Lane.{laneFrom, data-moved, sync-moved, octets-moved}
-use Rattle.frame.proofs.Sizes.{row-proper}
+use Rattle.frame.proofs.Rows.{proper}
 use Rattle.sender.specs.declared.Sender.{Sender}
 use Rattle.sender.specs.Lane.{lane, after}
 use Rattle.sender.specs.Refusal.{refusalOf}
@@ -83,7 +84,7 @@ module _ (mode E : ℕ) where
 pub record Sends (R : Row) (user : List ℕ) (history first n : ℕ) (lane : ℕ → ℕ) : Type 0 where
   pub bits : Bits lane
   pub data-bits : (i q : ℕ) → i < n → q < 2048 → dataBit (R .gap) lane i q ≡ sent (bitAt user) history (2048 * (first + i) + q)
-  pub parities : (i : ℕ) → suc i < n → readParity R (syncBit (R .gap) lane (suc i)) ≡ parityOf (R .code) (dataOctets (R .gap) lane i)
+  pub parities : (i : ℕ) → suc i < n → readParity (R .sync) (syncBit (R .gap) lane (suc i)) ≡ parityOf (code (R .sync)) (dataOctets (R .gap) lane i)
 
 module _ (gap : ℕ) (lane : ℕ → ℕ) (a b : ℕ) where
   further : laneFrom gap (laneFrom gap lane a) b ≡ laneFrom gap lane (a + b)
@@ -123,8 +124,8 @@ sends mode E s calls one first n inside = subst (λ (l : List ℕ). Sends R user
           data-from (R .gap) (bitAt all) first i q
           ∙ data-sent R E s user (allCommands calls) enough (one .ready (omega arith) .0 .history) (first + i) q (omega arith) l;
       parities = λ i h.
-          only-parity R (syncBit (R .gap) (laneFrom (R .gap) (bitAt all) first) (suc i)) (syncBit (R .gap) (bitAt all) (suc (first + i)))
-          (λ k l. sync-from (R .gap) (bitAt all) first (suc i) (place R (parity k)) ∙ ap (λ (m : ℕ). syncBit (R .gap) (bitAt all) m (place R (parity k))) {x = first + suc i} {y = suc (first + i)} (omega arith))
-          ∙ parity-sent R E s user (allCommands calls) enough (row-stands mode) (row-proper mode) (first + i) (omega arith)
-          ∙ ap (parityOf (R .code)) (sym (octets-from (R .gap) (bitAt all) first i));
+          only-parity (R .sync) (syncBit (R .gap) (laneFrom (R .gap) (bitAt all) first) (suc i)) (syncBit (R .gap) (bitAt all) (suc (first + i)))
+          (λ k l. sync-from (R .gap) (bitAt all) first (suc i) (place (R .sync) (parity k)) ∙ ap (λ (m : ℕ). syncBit (R .gap) (bitAt all) m (place (R .sync) (parity k))) {x = first + suc i} {y = suc (first + i)} (omega arith))
+          ∙ parity-sent R E s user (allCommands calls) enough (first + i) (omega arith)
+          ∙ ap (parityOf (code (R .sync))) (sym (octets-from (R .gap) (bitAt all) first i));
     }

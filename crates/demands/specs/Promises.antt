@@ -8,7 +8,8 @@ use lib.ListN.{length}
 use Rattle.bits.specs.Order.{bitAt, listFrom}
 use Rattle.parity.specs.Codeword.{Code, fec, remainderOf}
 use Rattle.parity.specs.Bursts.{BurstSet, IsBurst, flips as burstFlips}
-use Rattle.frame.specs.Modes.{code, repairs, rows, row}
+use Rattle.frame.specs.declared.modes.Sync.the-variants.{Crc12}
+use Rattle.frame.specs.Modes.{code, repairs, rows, known, row}
 use Rattle.frame.specs.Lane.{blockWidth, laneOctets, dataPlace, headerAt}
 use Rattle.sender.specs.declared.Sender.{Sender}
 use Rattle.judge.specs.Sound.{sound}
@@ -92,16 +93,16 @@ OneSet =
 -- ---- the locks
 
 -- the headers of a lane, from its block p on
-abbrev pub headersFrom : List ℕ → ℕ → ℕ → ℕ
-headersFrom lane p x = headerAt (row 0 .gap) (bitAt lane) ((p + x) / 32) ((p + x) % 32)
+abbrev pub headersFrom : ℕ → List ℕ → ℕ → ℕ → ℕ
+headersFrom gap lane p x = headerAt gap (bitAt lane) ((p + x) / 32) ((p + x) % 32)
 
 -- a CRC-12 lane that our sender made, fed from fresh at its true offset from any block of it, holds both locks after at most 95 + 128E blocks
 -- and at every block after, as far as the lane goes
 abbrev pub LocksInTime : Type 0
 LocksInTime =
-    (E : ℕ) (s : Sender) (calls : List Sending) → AllSent 0 E s calls
-    → (p n : ℕ) → blockWidth (row 0 .gap) * (p + n) ≤ 8 * length (laneSent 0 E s calls) → 95 + 128 * E ≤ n
-    → Held (stateAfter 0 E (headersFrom (laneSent 0 E s calls) p) n)
+    (mode E : ℕ) → known mode ≡ true → row mode .sync ≡ Crc12 → (s : Sender) (calls : List Sending) → AllSent mode E s calls
+    → (p n : ℕ) → blockWidth (row mode .gap) * (p + n) ≤ 8 * length (laneSent mode E s calls) → 95 + 128 * E ≤ n
+    → Held (stateAfter mode E (headersFrom (row mode .gap) (laneSent mode E s calls) p) n)
 
 -- ---- the dozen
 

@@ -3,12 +3,13 @@
 use mathlib.Core.Path.{_≡_, refl}
 use mathlib.Core.Bool.{true}
 use mathlib.Core.List.{List, [], _∷_}
-use Prim.Native.Nat.{ℕ, zero, suc, _*_, _≤_}
+use Prim.Native.Nat.{ℕ, zero, suc, _*_, _≤_, _<_}
 use native.Mathlib.Nat.{le-trans, mul-le-mul-left}
 use borrow.Author.Tests.{leb-true, le-leb}
-use lib.Dec.{leb, lit≤}
+use lib.Dec.{leb, lit≤, lit<}
 use lib.ListN.{getD}
 use Rattle.bits.proofs.Choice.{both-true, parts-true}
+use Rattle.parity.specs.Codeword.{Code}
 use Rattle.parity.proofs.Bursts.{Proper, crc12-proper, fec-proper}
 use Rattle.frame.specs.declared.modes.Sync.{Sync}
 use Rattle.frame.specs.declared.modes.Sync.the-variants.{Crc12, Fec}
@@ -28,6 +29,11 @@ mark-position Fec = refl
 pub proper : (S : Sync) → Proper (code S)
 proper Crc12 = crc12-proper
 proper Fec = fec-proper
+
+-- every code is used for some bursts
+pub limit-some : (S : Sync) → 0 < code S .limit
+limit-some Crc12 = lit< tt
+limit-some Fec = lit< tt
 
 -- ---- of every row
 

@@ -1,7 +1,7 @@
 -- How many octets a multiblock makes: document 01, "From octets to lane bits". Assumes nothing.
 use mathlib.Core.Path.{_≡_}
 use mathlib.Core.List.{List}
-use Prim.Native.Nat.{ℕ, _<_}
+use Prim.Native.Nat.{ℕ, _*_, _<_}
 use native.Mathlib.Omega.{arith}
 use lib.ListN.{length}
 use Rattle.bits.proofs.Octets.{length-octetsOf}
@@ -16,6 +16,11 @@ octets-some gap = omega arith
 pub width-some : (gap : ℕ) → 0 < blockWidth gap
 unfolding blockWidth
 width-some gap = omega arith
+
+-- 32 blocks
+pub octets-blocks : (gap : ℕ) → 8 * laneOctets gap ≡ blockWidth gap * 32
+unfolding laneOctets
+octets-blocks gap = omega arith
 
 -- without a gap
 pub plain-octets : (gap : ℕ) → gap ≡ 0 → laneOctets gap ≡ 264
