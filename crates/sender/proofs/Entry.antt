@@ -3,24 +3,22 @@
 use mathlib.Core.Path.{_≡_, refl, sym, ap, _∙_, subst}
 use mathlib.Core.Bool.{true, false, true≢false}
 use mathlib.Core.List.{List, []}
-use Prim.Native.Nat.{ℕ, _*_, _/_, _%_, _^_, _≤_, _<_}
+use Prim.Native.Nat.{ℕ, _*_, _/_, _%_, _≤_, _<_}
 use native.Mathlib.Nat.{div-add-mod'}
 use native.Mathlib.Omega.{arith}
 use borrow.Author.Tests.{eqb-true, ltb-false, not-true, not-false, eq-eqb, ne-eqb}
 use lib.Dec.{eqb}
 use lib.ListN.{length}
-use Rattle.bits.specs.Choice.{pick}
 use Rattle.bits.specs.Order.{laid}
 use Rattle.bits.proofs.Choice.{pick-both, parts-true}
 use Rattle.bits.proofs.Refusals.{testOf, not-given, Given, first, later, only-when}
 use Rattle.frame.specs.declared.modes.Row.{Row}
-use Rattle.frame.specs.declared.modes.Numbers.{Numbers}
-use Rattle.frame.specs.Modes.{row, numbersOf, code}
+use Rattle.frame.specs.Modes.{row}
 use Rattle.frame.specs.Lane.{laneOctets}
 use Rattle.frame.proofs.Rows.{no-gap, extent-within}
 use Rattle.sender.specs.declared.Sender.{Sender}
 use Rattle.sender.specs.Lane.{lane, after}
-use Rattle.sender.specs.Refusal.{stateFits, refusals, refusalOf}
+use Rattle.sender.specs.Refusal.{refusals, refusalOf}
 use Rattle.sender.specs.Entry.{Done, done, entry}
 use Rattle.sender.proofs.States.{Fits, in-range, fitting, run-fits}
 

@@ -2,13 +2,13 @@
 -- and the parity of multiblock i - 1. Document 01, "From octets to lane bits". Assumes nothing.
 use mathlib.Core.Path.{_≡_, refl, sym, ap, _∙_}
 use mathlib.Core.Bool.{Bool, true, false}
-use mathlib.Core.List.{List, [], _∷_, _++_}
+use mathlib.Core.List.{List, _∷_, _++_}
 use Prim.Native.Nat.{ℕ, zero, suc, _+_, _-_, _*_, _/_, _%_, _^_, _≤_, _<_}
 use native.Mathlib.Nat.{add-zero, mod-lt, mod-self, mod-eq-of-lt, div-add-mod, mul-add-mod-self-left}
 use native.Mathlib.Omega.{arith}
 use borrow.Author.Tests.{eqb-true, eqb-false}
 use lib.Dec.{eqb}
-use lib.ListN.{length, getD, take, drop, length-append, length-drop}
+use lib.ListN.{length, getD, take, drop}
 use lib.Seq.{split-at, drop-at, take-suc, length-take-le, take-all}
 use Rattle.bits.specs.Choice.{pick, bitOf}
 use Rattle.bits.specs.Order.{bitAt, digit}

@@ -1,7 +1,7 @@
--- Every state that an accepted call returns is accepted by the next call of that mode and E, and so is a fresh one:
--- document 01, "Numbers of refusal", line 3. Assumes nothing.
-use mathlib.Core.Path.{_≡_, refl}
-use mathlib.Core.Bool.{Bool, true, false}
+-- States in range: a run that starts in one leaves one, and a fresh state is one. Document 01, "Numbers of refusal", line 3.
+-- Assumes nothing.
+use mathlib.Core.Path.{_≡_}
+use mathlib.Core.Bool.{true}
 use mathlib.Core.List.{List, [], _∷_}
 use Prim.Native.Nat.{ℕ, _+_, _^_, _≤_, _<_}
 use native.Mathlib.Omega.{arith}

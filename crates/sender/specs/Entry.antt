@@ -1,5 +1,4 @@
 -- What a call of the sender answers, and what the lane holds after it: document 01, "Numbers of refusal". Assumes nothing.
-use mathlib.Core.Bool.{Bool, true, false}
 use mathlib.Core.List.{List}
 use Prim.Native.Nat.{ℕ}
 use lib.Dec.{eqb}

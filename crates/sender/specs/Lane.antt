@@ -1,6 +1,6 @@
 -- What a sender sends: document 01, "From octets to lane bits"; clauses 7.1.4, 7.3.3, 7.4.1 and 7.5.1.
 -- A run goes over commands, one for each multiblock, with 256 user octets each. Assumes nothing.
-use mathlib.Core.Bool.{Bool, true, false}
+use mathlib.Core.Bool.{Bool}
 use mathlib.Core.List.{List, [], _∷_, _++_}
 use Prim.Native.Nat.{ℕ, _+_}
 use lib.Dec.{eqb}
