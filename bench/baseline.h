@@ -2,13 +2,7 @@
 #ifndef BASELINE_H
 #define BASELINE_H
 
-#include "zaytulobe.h"
-
-typedef zaytulobe_u8 u8;
-typedef zaytulobe_u16 u16;
-typedef zaytulobe_u32 u32;
-typedef zaytulobe_u64 u64;
-typedef zaytulobe_size size;
+#include "../bulk/short.h"
 
 #define SEND(name) \
     struct zaytulobe_sent name(u8 mode, u32 e, struct zaytulobe_sender state, const u8 *user, size user_length, \
@@ -28,55 +22,56 @@ LISTING(tuned_listing);
 
 void *memcpy(void *to, const void *from, size count);
 
-enum { CRC12_LOWER = 0x30f, FEC_LOWER = 0x220211, MOST = 240, MOST_TEXT = 16 * (MOST + 2) };
+enum { CRC12_LOWER = 0x30f, FEC_LOWER = 0x220211, MOST = MOST_MULTIBLOCKS };
 
 static inline u8 send_refusal(u8 mode, u32 e, struct zaytulobe_sender state, size user_length, const u32 *commands,
     size commands_length, size lane_length) {
-    if (mode > 1)
-        return 1;
-    if (e < 1 || e > 256)
-        return 2;
-    if (state.history >> 58 || state.parity >> (mode ? 26 : 12) || state.number >= e)
-        return 3;
-    if (user_length % 256)
-        return 4;
-    size count = user_length / 256;
+    if (mode > FEC)
+        return ZAYTULOBE_REFUSED_MODE;
+    if (e < ZAYTULOBE_LEAST_E || e > ZAYTULOBE_MOST_E)
+        return ZAYTULOBE_REFUSED_E;
+    if (state.history >> 58 || state.parity >> (mode == FEC ? 26 : 12) || state.number >= e)
+        return ZAYTULOBE_REFUSED_STATE;
+    if (user_length % USER_OCTETS)
+        return ZAYTULOBE_REFUSED_LENGTH;
+    size count = user_length / USER_OCTETS;
     if (count > MOST)
-        return 5;
+        return ZAYTULOBE_REFUSED_COUNT;
     if (commands_length != count)
-        return 6;
+        return ZAYTULOBE_REFUSED_COMMANDS;
     for (size k = 0; k < count; k++)
-        if (commands[k] > (mode ? 0 : 127))
-            return 6;
-    return 264 * count > lane_length ? 7 : 0;
+        if (commands[k] > ZAYTULOBE_MOST_COMMAND(mode))
+            return ZAYTULOBE_REFUSED_COMMANDS;
+    return LANE_OCTETS * count > lane_length ? ZAYTULOBE_REFUSED_ROOM : ZAYTULOBE_ACCEPTED;
 }
 
 static inline int state_fits(u8 mode, const struct zaytulobe_receiver *state) {
-    if (state->waiting > 1 || state->trusted > 1 || state->history >> 58 || state->command > (mode ? 0 : 255))
+    u32 command = mode == FEC ? 0 : 2 * ZAYTULOBE_COMMAND_FLAG - 1;
+    if (state->waiting > 1 || state->trusted > 1 || state->history >> 58 || state->command > command)
         return 0;
     if (state->waiting)
         return 1;
     u8 any = 0;
-    for (int k = 0; k < 256; k++)
+    for (int k = 0; k < USER_OCTETS; k++)
         any |= state->octets[k];
     return !any && !state->history && !state->command && !state->trusted;
 }
 
 static inline u8 receive_refusal(u8 mode, const struct zaytulobe_receiver *state, size lane_length, size octets_length,
     size statuses_length, size commands_length, size places_length, size patterns_length) {
-    if (mode > 1)
-        return 1;
+    if (mode > FEC)
+        return ZAYTULOBE_REFUSED_MODE;
     if (!state_fits(mode, state))
-        return 3;
-    if (lane_length % 264)
-        return 4;
-    size count = lane_length / 264;
+        return ZAYTULOBE_REFUSED_STATE;
+    if (lane_length % LANE_OCTETS)
+        return ZAYTULOBE_REFUSED_LENGTH;
+    size count = lane_length / LANE_OCTETS;
     if (count > MOST)
-        return 5;
+        return ZAYTULOBE_REFUSED_COUNT;
     size released = state->waiting || !count ? count : count - 1;
-    int room = 256 * released <= octets_length && released <= statuses_length && released <= commands_length &&
+    int room = USER_OCTETS * released <= octets_length && released <= statuses_length && released <= commands_length &&
         released <= places_length && released <= patterns_length;
-    return room ? 0 : 7;
+    return room ? ZAYTULOBE_ACCEPTED : ZAYTULOBE_REFUSED_ROOM;
 }
 
 static inline size number_at(const u8 *octets) {
@@ -84,14 +79,14 @@ static inline size number_at(const u8 *octets) {
 }
 
 static inline u8 capture_refusal(const u8 *capture, size length) {
-    if (length < 11 || length > 63371 || number_at(capture) != 3 || number_at(capture + 7) != length - 11)
-        return 8;
+    if (length < HEAD || length > ZAYTULOBE_LONGEST_CAPTURE || number_at(capture) != 3 || number_at(capture + 7) != length - HEAD)
+        return ZAYTULOBE_REFUSED_CAPTURE;
     u32 e = (u32)capture[5] << 8 | capture[6];
-    if (capture[4] > 1)
-        return 1;
-    if (e < 1 || e > 256)
-        return 2;
-    return (length - 11) % 264 ? 4 : 0;
+    if (capture[4] > FEC)
+        return ZAYTULOBE_REFUSED_MODE;
+    if (e < ZAYTULOBE_LEAST_E || e > ZAYTULOBE_MOST_E)
+        return ZAYTULOBE_REFUSED_E;
+    return (length - HEAD) % LANE_OCTETS ? ZAYTULOBE_REFUSED_LENGTH : ZAYTULOBE_ACCEPTED;
 }
 
 /* A decimal number and the octet after it; answers the place after both. */
@@ -109,19 +104,19 @@ static inline u8 *put_number(u8 *at, u32 number, u8 end) {
 
 /* The listing over any receiver: the text is made aside, and copied where there is room for all of it. */
 static inline struct zaytulobe_listed list(RECEIVE((*receive)), const u8 *capture, size capture_length, u8 *text, size text_length) {
-    static u8 octets[256 * MOST], statuses[MOST], made[MOST_TEXT];
+    static u8 octets[USER_OCTETS * MOST], statuses[MOST], made[ZAYTULOBE_LONGEST_TEXT];
     static u32 commands[MOST];
     static u16 places[MOST], patterns[MOST];
     struct zaytulobe_listed listed = {capture_refusal(capture, capture_length), 0};
     if (listed.refusal)
         return listed;
     struct zaytulobe_receiver fresh = {0};
-    size count = receive(capture[4], fresh, capture + 11, capture_length - 11, octets, sizeof octets, statuses, MOST, commands, MOST,
-        places, MOST, patterns, MOST).count;
-    size name = capture[4] ? 4 : 6;
-    memcpy(made, capture[4] ? "fec " : "crc12 ", name);
+    size count = receive(capture[4], fresh, capture + HEAD, capture_length - HEAD, octets, sizeof octets, statuses, MOST,
+        commands, MOST, places, MOST, patterns, MOST).count;
+    size name = capture[4] == FEC ? 4 : 6;
+    memcpy(made, capture[4] == FEC ? "fec " : "crc12 ", name);
     u8 *at = put_number(made + name, (u32)capture[5] << 8 | capture[6], ' ');
-    at = put_number(at, (u32)((capture_length - 11) / 264), ' ');
+    at = put_number(at, (u32)((capture_length - HEAD) / LANE_OCTETS), ' ');
     at = put_number(at, (u32)count, '\n');
     for (size k = 0; k < count; k++) {
         at = put_number(at, (u32)k, ' ');
@@ -130,7 +125,7 @@ static inline struct zaytulobe_listed list(RECEIVE((*receive)), const u8 *captur
         at = put_number(at, patterns[k], '\n');
     }
     size length = (size)(at - made);
-    listed.refusal = length > text_length ? 7 : 0;
+    listed.refusal = length > text_length ? ZAYTULOBE_REFUSED_ROOM : ZAYTULOBE_ACCEPTED;
     if (!listed.refusal) {
         memcpy(text, made, length);
         listed.count = length;

@@ -38,16 +38,16 @@ static const struct made {
     enum damage damage;
     size multiblocks;
 } MADE[CASES] = {
-    {"send-crc12", SENDING, 0, CLEAN, 240},
-    {"send-fec", SENDING, 1, CLEAN, 240},
-    {"clean-crc12", RECEIVING, 0, CLEAN, 240},
-    {"clean-fec", RECEIVING, 1, CLEAN, 240},
-    {"repaired-fec", RECEIVING, 1, REPAIRED, 48},
-    {"last-fec", RECEIVING, 1, LAST, 48},
-    {"failed-crc12", RECEIVING, 0, FAILED, 240},
-    {"failed-fec", RECEIVING, 1, FAILED, 48},
-    {"listing-crc12", LISTING, 0, CLEAN, 240},
-    {"listing-fec", LISTING, 1, CLEAN, 240},
+    {"send-crc12", SENDING, CRC12, CLEAN, MOST},
+    {"send-fec", SENDING, FEC, CLEAN, MOST},
+    {"clean-crc12", RECEIVING, CRC12, CLEAN, MOST},
+    {"clean-fec", RECEIVING, FEC, CLEAN, MOST},
+    {"repaired-fec", RECEIVING, FEC, REPAIRED, 48},
+    {"last-fec", RECEIVING, FEC, LAST, 48},
+    {"failed-crc12", RECEIVING, CRC12, FAILED, MOST},
+    {"failed-fec", RECEIVING, FEC, FAILED, 48},
+    {"listing-crc12", LISTING, CRC12, CLEAN, MOST},
+    {"listing-fec", LISTING, FEC, CLEAN, MOST},
 };
 
 static u64 stands_at;
@@ -58,31 +58,31 @@ static u32 draw(u32 below) {
 }
 
 /* The input: what is sent, and a lane of one multiblock more than a call takes, so that each call releases as many as it takes. */
-static u8 user[256 * (MOST + 1)], lane[264 * (MOST + 1)], capture[11 + 264 * MOST];
+static u8 user[USER_OCTETS * (MOST + 1)], lane[LANE_OCTETS * (MOST + 1)], capture[ZAYTULOBE_LONGEST_CAPTURE];
 static u32 commands[MOST + 1];
 static struct zaytulobe_receiver before;
 
 /* Everything that a call answers. */
 static struct results {
     u64 numbers[8];
-    u8 lane[264 * MOST], octets[256 * MOST], statuses[MOST], waiting[256], text[MOST_TEXT];
+    u8 lane[LANE_OCTETS * MOST], octets[USER_OCTETS * MOST], statuses[MOST], waiting[USER_OCTETS], text[ZAYTULOBE_LONGEST_TEXT];
     u32 commands[MOST];
     u16 places[MOST], patterns[MOST];
 } results[LIBRARY_COUNT];
 
 static void flip_data(size multiblock, size position) {
-    size bit = 2112 * multiblock + 66 * (position / 64) + 2 + position % 64;
+    size bit = MULTIBLOCK_BITS * multiblock + BLOCK_BITS * (position / 64) + 2 + position % 64;
     lane[bit / 8] ^= (u8)(128 >> bit % 8);
 }
 
 /* A position of the FEC codeword: those from 2048 on are carried by headers of the next multiblock, around its end mark. */
 static void flip_position(size multiblock, size position) {
-    if (position < 2048) {
+    if (position < DATA_BITS) {
         flip_data(multiblock, position);
         return;
     }
-    size block = position - 2048 < 22 ? position - 2048 : position - 2047;
-    size bit = 2112 * (multiblock + 1) + 66 * block;
+    size rank = position - DATA_BITS, block = rank < 22 ? rank : rank + 1;
+    size bit = MULTIBLOCK_BITS * (multiblock + 1) + BLOCK_BITS * block;
     lane[bit / 8] ^= (u8)(192 >> bit % 8);
 }
 
@@ -109,37 +109,40 @@ static void prepare(const struct made *made) {
     for (size k = 0; k < sizeof user; k++)
         user[k] = (u8)draw(256);
     for (size k = 0; k <= MOST; k++)
-        commands[k] = made->mode ? 0 : draw(128);
+        commands[k] = made->mode == FEC ? 0 : draw(ZAYTULOBE_MOST_COMMAND(CRC12) + 1);
     struct zaytulobe_sender fresh = {0, 0, 0};
-    struct zaytulobe_sender state = zaytulobe_send(made->mode, E, fresh, user, 256, commands, 1, lane, 264).state;
-    zaytulobe_send(made->mode, E, state, user + 256, 256 * n, commands + 1, n, lane + 264, 264 * n);
+    struct zaytulobe_sender state = zaytulobe_send(made->mode, E, fresh, user, USER_OCTETS, commands, 1, lane, LANE_OCTETS).state;
+    zaytulobe_send(made->mode, E, state, user + USER_OCTETS, USER_OCTETS * n, commands + 1, n, lane + LANE_OCTETS, LANE_OCTETS * n);
     for (size k = 0; k < n; k++)
         hit(k, made->damage);
     struct zaytulobe_receiver none = {0};
     struct results *to = &results[0];
-    before = zaytulobe_receive(made->mode, none, lane, 264, to->octets, 0, to->statuses, 0, to->commands, 0, to->places, 0, to->patterns, 0).state;
-    size length = 264 * n;
-    u8 sections[11] = {0, 0, 0, 3, made->mode, 0, E, 0, (u8)(length >> 16), (u8)(length >> 8), (u8)length};
-    memcpy(capture, sections, 11);
-    memcpy(capture + 11, lane, length);
+    before = zaytulobe_receive(made->mode, none, lane, LANE_OCTETS, to->octets, 0, to->statuses, 0, to->commands, 0, to->places, 0,
+        to->patterns, 0).state;
+    size length = LANE_OCTETS * n;
+    u8 head[HEAD] = {0, 0, 0, 3, made->mode, 0, E, 0, (u8)(length >> 16), (u8)(length >> 8), (u8)length};
+    memcpy(capture, head, HEAD);
+    memcpy(capture + HEAD, lane, length);
 }
 
 static void turn(const struct made *made, const struct library *library, struct results *to) {
     size n = made->multiblocks;
     if (made->work == SENDING) {
         struct zaytulobe_sender fresh = {0, 0, 0};
-        struct zaytulobe_sent sent = library->send(made->mode, E, fresh, user, 256 * n, commands, n, to->lane, sizeof to->lane);
+        struct zaytulobe_sent sent = library->send(
+            made->mode, E, fresh, user, USER_OCTETS * n, commands, n, to->lane, sizeof to->lane);
         u64 numbers[5] = {sent.refusal, sent.count, sent.state.history, sent.state.parity, sent.state.number};
         memcpy(to->numbers, numbers, sizeof numbers);
     } else if (made->work == RECEIVING) {
-        struct zaytulobe_received received = library->receive(made->mode, before, lane + 264, 264 * n, to->octets, sizeof to->octets,
-            to->statuses, MOST, to->commands, MOST, to->places, MOST, to->patterns, MOST);
+        struct zaytulobe_received received = library->receive(
+            made->mode, before, lane + LANE_OCTETS, LANE_OCTETS * n, to->octets, sizeof to->octets, to->statuses, MOST,
+            to->commands, MOST, to->places, MOST, to->patterns, MOST);
         struct zaytulobe_receiver *state = &received.state;
         u64 numbers[6] = {received.refusal, received.count, state->history, state->command, state->waiting, state->trusted};
         memcpy(to->numbers, numbers, sizeof numbers);
-        memcpy(to->waiting, state->octets, 256);
+        memcpy(to->waiting, state->octets, USER_OCTETS);
     } else {
-        struct zaytulobe_listed listed = library->listing(capture, 11 + 264 * n, to->text, sizeof to->text);
+        struct zaytulobe_listed listed = library->listing(capture, HEAD + LANE_OCTETS * n, to->text, sizeof to->text);
         to->numbers[0] = listed.refusal;
         to->numbers[1] = listed.count;
     }
@@ -147,12 +150,12 @@ static void turn(const struct made *made, const struct library *library, struct 
 
 /* Not refused, the whole count, and of a receiver the status that the case is made for; the first has nothing trusted before it. */
 static int as_made(const struct made *made, const struct results *got) {
-    static const u8 statuses[] = {0, 1, 1, 2};
+    static const u8 statuses[] = {ZAYTULOBE_AGREES, ZAYTULOBE_REPAIRED, ZAYTULOBE_REPAIRED, ZAYTULOBE_FAILED};
     size n = made->multiblocks;
-    if (got->numbers[0] != 0 || (made->work == LISTING ? got->numbers[1] < 8 * n : got->numbers[1] != n))
+    if (got->numbers[0] != ZAYTULOBE_ACCEPTED || (made->work == LISTING ? got->numbers[1] < 8 * n : got->numbers[1] != n))
         return 0;
     for (size k = 0; made->work == RECEIVING && k < n; k++)
-        if (got->statuses[k] != statuses[made->damage] + (k == 0 || made->damage == FAILED ? 4 : 0))
+        if (got->statuses[k] != statuses[made->damage] + (k == 0 || made->damage == FAILED ? ZAYTULOBE_UNTRUSTED : 0))
             return 0;
     return 1;
 }

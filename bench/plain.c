@@ -5,7 +5,7 @@ enum { POSITIONS = 2074, LIMIT = 9 };
 
 /* What stands at each position of a sync word: a bit of the parity, a bit of the command, the end mark, or a fixed bit. */
 enum { COMMAND = 32, MARK = 64, ZERO, ONE };
-static const u8 LAYOUTS[2][32] = {
+static const u8 LAYOUTS[2][BLOCKS] = {
     {11, 10, 9, ONE, 8, 7, 6, ONE, 5, 4, 3, ONE, 2, 1, 0, ONE, COMMAND + 6, COMMAND + 5, COMMAND + 4, ONE, COMMAND + 3, ONE, MARK,
         ONE, COMMAND + 2, COMMAND + 1, COMMAND, ZERO, ZERO, ZERO, ZERO, ONE},
     {25, 24, 23, 22, 21, 20, 19, 18, 17, 16, 15, 14, 13, 12, 11, 10, 9, 8, 7, 6, 5, 4, MARK, 3, 2, 1, 0, ZERO, ZERO, ZERO, ZERO, ONE},
@@ -26,26 +26,26 @@ static void put_bit(u8 *octets, size bit, u32 value) {
 }
 
 static u32 times_x(u8 mode, u32 remainder) {
-    u32 width = mode ? 26 : 12, lower = mode ? FEC_LOWER : CRC12_LOWER;
+    u32 width = mode == FEC ? 26 : 12, lower = mode == FEC ? FEC_LOWER : CRC12_LOWER;
     u32 top = remainder >> (width - 1) & 1;
     remainder = remainder << 1 & ((1u << width) - 1);
     return top ? remainder ^ lower : remainder;
 }
 
 static u32 next_remainder(u8 mode, u32 remainder, u32 bit) {
-    return times_x(mode, remainder ^ bit << (mode ? 25 : 11));
+    return times_x(mode, remainder ^ bit << (mode == FEC ? 25 : 11));
 }
 
 static u32 remainder_of(u8 mode, const u8 *octets) {
     u32 remainder = 0;
-    for (size bit = 0; bit < 2048; bit++)
+    for (size bit = 0; bit < DATA_BITS; bit++)
         remainder = next_remainder(mode, remainder, bit_at(octets, bit));
     return remainder;
 }
 
 __attribute__((constructor)) static void make_weights(void) {
     u32 weight = 1;
-    for (size position = POSITIONS; position-- > 0; weight = times_x(1, weight))
+    for (size position = POSITIONS; position-- > 0; weight = times_x(FEC, weight))
         weights[position] = weight;
 }
 
@@ -58,13 +58,13 @@ static u32 sync_bit(u8 mode, size position, u32 parity, u32 command, u32 mark) {
 
 static void send_one(u8 mode, u32 e, struct zaytulobe_sender *state, const u8 *user, u32 command, u8 *lane) {
     u32 parity = 0, last = state->number + 1 == e;
-    for (size block = 0; block < 32; block++) {
+    for (size block = 0; block < BLOCKS; block++) {
         u32 carried = sync_bit(mode, block, state->parity, command, last);
-        put_bit(lane, 66 * block, !carried);
-        put_bit(lane, 66 * block + 1, carried);
+        put_bit(lane, BLOCK_BITS * block, !carried);
+        put_bit(lane, BLOCK_BITS * block + 1, carried);
         for (size bit = 0; bit < 64; bit++) {
             u32 sent = bit_at(user, 64 * block + bit) ^ (state->history >> 38 & 1) ^ (state->history >> 57 & 1);
-            put_bit(lane, 66 * block + 2 + bit, sent);
+            put_bit(lane, BLOCK_BITS * block + 2 + bit, sent);
             state->history = state->history << 1 | sent;
             parity = next_remainder(mode, parity, sent);
         }
@@ -80,21 +80,21 @@ SEND(plain_send) {
     if (sent.refusal)
         return sent;
     for (size k = 0; k < commands_length; k++)
-        send_one(mode, e, &sent.state, user + 256 * k, commands[k], lane + 264 * k);
+        send_one(mode, e, &sent.state, user + USER_OCTETS * k, commands[k], lane + LANE_OCTETS * k);
     sent.count = commands_length;
     return sent;
 }
 
 struct heard {
     u32 parity, command;
-    u8 octets[256];
+    u8 octets[USER_OCTETS];
 };
 
 static void hear(u8 mode, const u8 *lane, struct heard *heard) {
     u32 invalid = 0;
     heard->parity = heard->command = 0;
-    for (size block = 0; block < 32; block++) {
-        u32 first = bit_at(lane, 66 * block), second = bit_at(lane, 66 * block + 1), carried = !first && second;
+    for (size block = 0; block < BLOCKS; block++) {
+        u32 first = bit_at(lane, BLOCK_BITS * block), second = bit_at(lane, BLOCK_BITS * block + 1), carried = !first && second;
         u8 field = LAYOUTS[mode][block];
         if (field < COMMAND) {
             heard->parity |= carried << field;
@@ -103,9 +103,9 @@ static void hear(u8 mode, const u8 *lane, struct heard *heard) {
             invalid |= first == second;
         }
         for (size bit = 0; bit < 64; bit++)
-            put_bit(heard->octets, 64 * block + bit, bit_at(lane, 66 * block + 2 + bit));
+            put_bit(heard->octets, 64 * block + bit, bit_at(lane, BLOCK_BITS * block + 2 + bit));
     }
-    heard->command += invalid << 7;
+    heard->command += invalid * ZAYTULOBE_COMMAND_FLAG;
 }
 
 static int find_burst(u32 difference, u16 *place, u16 *pattern) {
@@ -128,12 +128,12 @@ static int find_burst(u32 difference, u16 *place, u16 *pattern) {
 
 static void flip(u8 *octets, u16 place, u16 pattern) {
     for (size k = 0; k < LIMIT; k++)
-        if (pattern >> k & 1 && place + k < 2048)
+        if (pattern >> k & 1 && place + k < DATA_BITS)
             put_bit(octets, place + k, !bit_at(octets, place + k));
 }
 
 static u64 descramble(const u8 *octets, u64 history, u8 *out) {
-    for (size bit = 0; bit < 2048; bit++) {
+    for (size bit = 0; bit < DATA_BITS; bit++) {
         u32 received = bit_at(octets, bit);
         put_bit(out, bit, received ^ (history >> 38 & 1) ^ (history >> 57 & 1));
         history = history << 1 | received;
@@ -144,7 +144,7 @@ static u64 descramble(const u8 *octets, u64 history, u8 *out) {
 static void await(struct zaytulobe_receiver *state, const struct heard *heard) {
     state->waiting = 1;
     state->command = heard->command;
-    memcpy(state->octets, heard->octets, 256);
+    memcpy(state->octets, heard->octets, USER_OCTETS);
 }
 
 RECEIVE(plain_receive) {
@@ -155,23 +155,23 @@ RECEIVE(plain_receive) {
         return received;
     struct zaytulobe_receiver *now = &received.state;
     size released = 0;
-    for (size at = 0; at < lane_length; at += 264) {
+    for (size at = 0; at < lane_length; at += LANE_OCTETS) {
         struct heard heard;
         hear(mode, lane + at, &heard);
         if (now->waiting) {
             u32 difference = remainder_of(mode, now->octets) ^ heard.parity;
             u16 place = 0, pattern = 0;
-            u8 status = 0;
+            u8 status = ZAYTULOBE_AGREES;
             if (difference) {
-                status = mode && find_burst(difference, &place, &pattern) ? 1 : 2;
+                status = mode == FEC && find_burst(difference, &place, &pattern) ? ZAYTULOBE_REPAIRED : ZAYTULOBE_FAILED;
                 flip(now->octets, place, pattern);
             }
-            now->history = descramble(now->octets, now->history, octets + 256 * released);
-            statuses[released] = now->trusted ? status : status + 4;
+            now->history = descramble(now->octets, now->history, octets + USER_OCTETS * released);
+            statuses[released] = now->trusted ? status : status + ZAYTULOBE_UNTRUSTED;
             commands[released] = now->command;
             places[released] = place;
             patterns[released++] = pattern;
-            now->trusted = status != 2;
+            now->trusted = status != ZAYTULOBE_FAILED;
         }
         await(now, &heard);
     }

@@ -45,12 +45,12 @@ static inline u32 next_remainder(const u32 (*rows)[256], u32 width, u32 remainde
 }
 
 static inline u32 next_parity(u8 mode, u32 parity, u64 word) {
-    return mode ? next_remainder((const u32(*)[256])fec_rows, 26, parity, word)
-                : next_remainder((const u32(*)[256])crc12_rows, 12, parity, word);
+    return mode == FEC ? next_remainder((const u32(*)[256])fec_rows, 26, parity, word)
+                       : next_remainder((const u32(*)[256])crc12_rows, 12, parity, word);
 }
 
 static inline u32 sync_word(u8 mode, u32 parity, u32 command, u32 mark) {
-    if (mode)
+    if (mode == FEC)
         return (parity >> 4) << 10 | mark << 9 | (parity & 15) << 5 | 1;
     u32 code = (parity & 0xe00) << 20 | (parity & 0x1c0) << 19 | (parity & 0x38) << 18 | (parity & 7) << 17;
     u32 own = (command & 0x70) << 9 | (command & 8) << 8 | (command & 7) << 5;
@@ -58,13 +58,13 @@ static inline u32 sync_word(u8 mode, u32 parity, u32 command, u32 mark) {
 }
 
 static inline u32 parity_in(u8 mode, u32 word) {
-    if (mode)
+    if (mode == FEC)
         return (word >> 10) << 4 | (word >> 5 & 15);
     return (word >> 20 & 0xe00) | (word >> 19 & 0x1c0) | (word >> 18 & 0x38) | (word >> 17 & 7);
 }
 
 static inline u32 command_in(u8 mode, u32 word) {
-    return mode ? 0 : (word >> 9 & 0x70) | (word >> 8 & 8) | (word >> 5 & 7);
+    return mode == FEC ? 0 : (word >> 9 & 0x70) | (word >> 8 & 8) | (word >> 5 & 7);
 }
 
 /* The header of the block whose bit stands highest in `sync`: 01 for 1, 10 for 0. */
@@ -100,12 +100,12 @@ SEND(tuned_send) {
     if (sent.refusal)
         return sent;
     struct zaytulobe_sender now = state;
-    if (mode)
+    if (mode == FEC)
         for (size k = 0; k < commands_length; k++)
-            send_one(1, e, &now, user + 256 * k, commands[k], lane + 264 * k);
+            send_one(FEC, e, &now, user + USER_OCTETS * k, commands[k], lane + LANE_OCTETS * k);
     else
         for (size k = 0; k < commands_length; k++)
-            send_one(0, e, &now, user + 256 * k, commands[k], lane + 264 * k);
+            send_one(CRC12, e, &now, user + USER_OCTETS * k, commands[k], lane + LANE_OCTETS * k);
     sent.state = now;
     sent.count = commands_length;
     return sent;
@@ -155,13 +155,13 @@ static int trap(u32 difference, u16 *place, u16 *pattern) {
 
 static inline void flip(u64 *words, u32 place, u32 pattern) {
     for (u32 at = place; pattern; at++, pattern >>= 1)
-        if (pattern & 1 && at < 2048)
+        if (pattern & 1 && at < DATA_BITS)
             words[at / 64] ^= 1ul << (63 - at % 64);
 }
 
 static inline u32 remainder_of(u8 mode, const u64 *words) {
     u32 parity = 0;
-    for (int k = 0; k < 32; k++)
+    for (int k = 0; k < BLOCKS; k++)
         parity = next_parity(mode, parity, words[k]);
     return parity;
 }
@@ -174,40 +174,40 @@ struct outputs {
 
 /* The waiting multiblock stays in 32 words from turn to turn; two sets of words change places. */
 static inline size receive_all(u8 mode, struct zaytulobe_receiver *state, const u8 *lane, size count, struct outputs out) {
-    u64 both[2][32], *words = both[0], *next = both[1], history = state->history;
+    u64 both[2][BLOCKS], *words = both[0], *next = both[1], history = state->history;
     u32 first, second, command = state->command, trusted = state->trusted;
     size released = 0;
     if (state->waiting)
-        for (int k = 0; k < 32; k++)
+        for (int k = 0; k < BLOCKS; k++)
             words[k] = load(state->octets + 8 * k);
-    for (size turn = 0; turn < count; turn++, lane += 264) {
+    for (size turn = 0; turn < count; turn++, lane += LANE_OCTETS) {
         hear(lane, next, &first, &second);
         u32 sync = ~first & second;
         if (turn || state->waiting) {
-            u32 difference = remainder_of(mode, words) ^ parity_in(mode, sync), status = 0;
+            u32 difference = remainder_of(mode, words) ^ parity_in(mode, sync), status = ZAYTULOBE_AGREES;
             u16 place = 0, pattern = 0;
             if (difference) {
-                status = mode && trap(difference, &place, &pattern) ? 1 : 2;
+                status = mode == FEC && trap(difference, &place, &pattern) ? ZAYTULOBE_REPAIRED : ZAYTULOBE_FAILED;
                 flip(words, place, pattern);
             }
-            u8 *octets = out.octets + 256 * released;
-            for (int k = 0; k < 32; k++) {
+            u8 *octets = out.octets + USER_OCTETS * released;
+            for (int k = 0; k < BLOCKS; k++) {
                 u64 word = words[k];
                 store(octets + 8 * k, word ^ word >> 39 ^ word >> 58 ^ history << 25 ^ history << 6);
                 history = word;
             }
-            out.statuses[released] = (u8)(trusted ? status : status + 4);
+            out.statuses[released] = (u8)(trusted ? status : status + ZAYTULOBE_UNTRUSTED);
             out.commands[released] = command;
             out.places[released] = place;
             out.patterns[released++] = pattern;
-            trusted = status != 2;
+            trusted = status != ZAYTULOBE_FAILED;
         }
-        command = command_in(mode, sync) + (command_in(mode, ~(first ^ second)) ? 128 : 0);
+        command = command_in(mode, sync) + (command_in(mode, ~(first ^ second)) ? ZAYTULOBE_COMMAND_FLAG : 0);
         u64 *were = words;
         words = next;
         next = were;
     }
-    for (int k = 0; k < 32; k++)
+    for (int k = 0; k < BLOCKS; k++)
         store(state->octets + 8 * k, words[k]);
     state->history = history & ((1ul << 58) - 1);
     state->command = command;
@@ -223,8 +223,8 @@ RECEIVE(tuned_receive) {
     if (received.refusal || lane_length == 0)
         return received;
     struct outputs out = {octets, statuses, commands, places, patterns};
-    received.count = mode ? receive_all(1, &received.state, lane, lane_length / 264, out)
-                          : receive_all(0, &received.state, lane, lane_length / 264, out);
+    received.count = mode == FEC ? receive_all(FEC, &received.state, lane, lane_length / LANE_OCTETS, out)
+                                 : receive_all(CRC12, &received.state, lane, lane_length / LANE_OCTETS, out);
     return received;
 }
 

@@ -25,7 +25,7 @@ static u64 draw_history(void) {
 }
 
 static size draw_count(void) {
-    return draw(32) == 0 ? 239 + draw(3) : draw(4);
+    return draw(32) == 0 ? MOST_MULTIBLOCKS - 1 + draw(3) : draw(4);
 }
 
 static size draw_parts(u8 *octets, size part, size count) {
@@ -37,8 +37,8 @@ static size draw_parts(u8 *octets, size part, size count) {
 }
 
 static u32 draw_parity(u8 mode) {
-    if (mode == 0)
-        return or_more((u32)draw(4096), 1 << 12);
+    if (mode == CRC12)
+        return or_more((u32)draw(1 << 12), 1 << 12);
     u32 parity = (u32)draw(1 << 13);
     parity = parity << 13 | (u32)draw(1 << 13);
     return or_more(parity, 1 << 26);
@@ -47,9 +47,9 @@ static u32 draw_parity(u8 mode) {
 static size draw_commands(u8 mode, size count) {
     size length = count + (size)rarely();
     for (size k = 0; k < length; k++)
-        commands[k] = mode == 0 ? (u32)draw(128) : 0;
+        commands[k] = mode == CRC12 ? (u32)draw(ZAYTULOBE_MOST_COMMAND(CRC12) + 1) : 0;
     if (rarely() && length > 0)
-        commands[draw(length)] = mode == 0 ? 128 : 1;
+        commands[draw(length)] = mode == CRC12 ? ZAYTULOBE_MOST_COMMAND(CRC12) + 1 : 1;
     return length;
 }
 
@@ -61,11 +61,11 @@ static void send_call(u64 seed) {
     state.parity = draw_parity(mode);
     state.number = or_more((u32)draw(e == 0 ? 1 : e), e);
     size count = draw_count();
-    size user_length = draw_parts(user, 256, count);
+    size user_length = draw_parts(user, USER_OCTETS, count);
     size commands_length = draw_commands(mode, count);
-    size room = 264 * count + draw(16);
+    size room = LANE_OCTETS * count + draw(16);
     if (rarely())
-        room = count == 0 ? 0 : 264 * count - 1;
+        room = count == 0 ? 0 : LANE_OCTETS * count - 1;
     memset(lane, BEFORE, room);
     struct zaytulobe_sent sent = zaytulobe_send(mode, e, state, user, user_length, commands, commands_length, lane, room);
     printf("%lu send %d %lu %lu %u %u %016lx\n", seed, sent.refusal, sent.count, sent.state.history, sent.state.parity,
@@ -80,9 +80,9 @@ static struct zaytulobe_receiver draw_any_receiver(u8 mode) {
     u32 trusted = (u32)draw(2);
     state.trusted = (u8)or_rather(trusted, 2);
     state.history = draw_history();
-    u32 command = mode == 0 ? (u32)draw(256) : 0;
-    state.command = or_more(command, mode == 0 ? 256 : 1);
-    draw_octets(state.octets, 256);
+    u32 command = mode == CRC12 ? (u32)draw(2 * ZAYTULOBE_COMMAND_FLAG) : 0;
+    state.command = or_more(command, mode == CRC12 ? 2 * ZAYTULOBE_COMMAND_FLAG : 1);
+    draw_octets(state.octets, USER_OCTETS);
     return state;
 }
 
@@ -96,22 +96,22 @@ static struct zaytulobe_receiver draw_receiver(u8 mode) {
     case 1: none.history = any.history; break;
     case 2: none.command = any.command; break;
     case 3: none.trusted = any.trusted; break;
-    case 4: for (int k = 0; k < 256; k++) none.octets[k] = any.octets[k]; break;
+    case 4: for (int k = 0; k < USER_OCTETS; k++) none.octets[k] = any.octets[k]; break;
     }
     return none;
 }
 
-static u8 octets[256 * MOST], statuses[MOST + 2];
+static u8 octets[USER_OCTETS * MOST], statuses[MOST + 2];
 static u32 got_commands[MOST + 2];
 static u16 places[MOST + 2], patterns[MOST + 2];
 
 /* The rooms of octets, statuses, commands, places and patterns. */
 static void draw_lent(size *rooms, size count) {
-    rooms[0] = 256 * count + draw(16);
+    rooms[0] = USER_OCTETS * count + draw(16);
     for (int k = 1; k < 5; k++)
         rooms[k] = count + draw(3);
     if (rarely()) {
-        size which = draw(5), whole = which == 0 ? 256 * count : count;
+        size which = draw(5), whole = which == 0 ? USER_OCTETS * count : count;
         rooms[which] = whole == 0 ? 0 : whole - 1;
     }
     memset(octets, BEFORE, rooms[0]);
@@ -138,13 +138,13 @@ static void receive_call(u64 seed) {
     u8 mode = MODES[draw(8)];
     struct zaytulobe_receiver state = draw_receiver(mode);
     size count = draw_count();
-    size lane_length = draw_parts(lane, 264, count);
+    size lane_length = draw_parts(lane, LANE_OCTETS, count);
     draw_lent(rooms, count);
     struct zaytulobe_received received = zaytulobe_receive(mode, state, lane, lane_length, octets, rooms[0], statuses, rooms[1],
         got_commands, rooms[2], places, rooms[3], patterns, rooms[4]);
     state = received.state;
     printf("%lu receive %d %lu %d %lu %d %u %016lx %016lx\n", seed, received.refusal, received.count, state.waiting,
-        state.history, state.trusted, state.command, digest_of(state.octets, 256), lent_digest(rooms));
+        state.history, state.trusted, state.command, digest_of(state.octets, USER_OCTETS), lent_digest(rooms));
 }
 
 static u32 draw_headers(u32 seen) {
@@ -156,7 +156,7 @@ static u32 draw_headers(u32 seen) {
 }
 
 static u32 draw_next(u32 phase, u32 period) {
-    if (phase != 1 && phase != 2)
+    if (phase != ZAYTULOBE_FOLLOWING && phase != ZAYTULOBE_LOCKED)
         return 0;
     return draw(2) == 0 ? 1 : 1 + (u32)draw(period);
 }
@@ -169,9 +169,9 @@ static struct zaytulobe_extended_lock draw_extended(u32 period) {
     u32 headers_seen = seen[draw(8)];
     lock.seen = or_rather(headers_seen, 33);
     lock.headers = draw_headers(lock.seen);
-    u32 good = lock.phase == 1 ? 1 + (u32)draw(3) : 0;
+    u32 good = lock.phase == ZAYTULOBE_FOLLOWING ? 1 + (u32)draw(3) : 0;
     lock.good = or_more(good, 4);
-    u32 bad = lock.phase == 2 ? (u32)draw(8) : 0;
+    u32 bad = lock.phase == ZAYTULOBE_LOCKED ? (u32)draw(8) : 0;
     lock.bad = or_more(bad, 8);
     u32 next = draw_next(lock.phase, period);
     lock.next = or_more(next, period);
@@ -183,13 +183,13 @@ static struct zaytulobe_lock draw_lock(u32 e) {
     struct zaytulobe_lock lock;
     u32 locked = locks[draw(8)];
     lock.header.locked = or_rather(locked, 2);
-    u32 offset = (u32)draw(66);
-    lock.header.offset = or_more(offset, 66);
+    u32 offset = (u32)draw(BLOCK_BITS);
+    lock.header.offset = or_more(offset, BLOCK_BITS);
     u32 run = (u32)draw(64);
     lock.header.run = or_more(run, 64);
     u32 bad = lock.header.locked == 1 ? (u32)draw(16) : 0;
     lock.header.bad = or_more(bad, 16);
-    lock.extended = draw_extended(32 * (e == 0 ? 1 : e));
+    lock.extended = draw_extended(BLOCKS * (e == 0 ? 1 : e));
     if (lock.header.locked == 0 && draw(4) != 0)
         memset(&lock.extended, 0, sizeof lock.extended);
     return lock;
@@ -217,11 +217,11 @@ static void longest_call(u64 seed) {
     size count = draw(12);
     for (size k = 0; k < count; k++)
         statuses[k] = listed[draw(12)];
-    size length = 256 * count;
+    size length = USER_OCTETS * count;
     if (rarely())
-        length += 1 + draw(255);
+        length += 1 + draw(USER_OCTETS - 1);
     if (rarely())
-        length += 256;
+        length += USER_OCTETS;
     struct zaytulobe_run run = zaytulobe_longest_run(octets, length, statuses, count);
     printf("%lu longest %d %lu %lu\n", seed, run.refusal, run.start, run.count);
 }

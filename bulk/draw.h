@@ -2,19 +2,13 @@
 #ifndef DRAW_H
 #define DRAW_H
 
-#include "zaytulobe.h"
-
-typedef zaytulobe_u8 u8;
-typedef zaytulobe_u16 u16;
-typedef zaytulobe_u32 u32;
-typedef zaytulobe_u64 u64;
-typedef zaytulobe_size size;
+#include "short.h"
 
 int printf(const char *format, ...);
 void *memset(void *to, int octet, size count);
 
 /* Most multiblocks of a case, and a part of one more. */
-enum { MOST = 242 };
+enum { MOST = MOST_MULTIBLOCKS + 2 };
 
 static u64 stands_at;
 

@@ -20,7 +20,8 @@ static struct zaytulobe_sender send_calls(void) {
     for (size k = 0, from = 0; k < call_count; from += calls[k++]) {
         size n = calls[k];
         state = zaytulobe_send(
-            drawn.mode, drawn.e, state, user + 256 * from, 256 * n, commands + from, n, lane + 264 * from, 264 * n).state;
+            drawn.mode, drawn.e, state, user + USER_OCTETS * from, USER_OCTETS * n, commands + from, n, lane + LANE_OCTETS * from,
+            LANE_OCTETS * n).state;
     }
     return state;
 }
@@ -52,8 +53,9 @@ static size receive_calls(struct zaytulobe_receiver *state) {
     *state = zaytulobe_fresh_receiver();
     for (size k = 0, from = 0; k < call_count; from += calls[k++]) {
         size n = calls[k];
-        struct zaytulobe_received received = zaytulobe_receive(drawn.mode, *state, lane + 264 * from, 264 * n, octets + 256 * count,
-            256 * n, statuses + count, n, got_commands + count, n, places + count, n, patterns + count, n);
+        struct zaytulobe_received received = zaytulobe_receive(
+            drawn.mode, *state, lane + LANE_OCTETS * from, LANE_OCTETS * n, octets + USER_OCTETS * count, USER_OCTETS * n,
+            statuses + count, n, got_commands + count, n, places + count, n, patterns + count, n);
         *state = received.state;
         count += received.count;
     }
@@ -61,8 +63,8 @@ static size receive_calls(struct zaytulobe_receiver *state) {
 }
 
 static u64 received_digest(const struct zaytulobe_receiver *state, size count) {
-    size rooms[5] = {256 * count, count, count, count, count};
-    u64 digest = with_octets(lent_digest(rooms), state->octets, 256);
+    size rooms[5] = {USER_OCTETS * count, count, count, count, count};
+    u64 digest = with_octets(lent_digest(rooms), state->octets, USER_OCTETS);
     digest = with_number(with_number(digest, state->history), state->command);
     return with_octet(with_octet(digest, state->waiting), state->trusted);
 }
@@ -70,9 +72,9 @@ static u64 received_digest(const struct zaytulobe_receiver *state, size count) {
 static void print_received(const struct zaytulobe_receiver *state, size count) {
     for (size k = 0; k < count; k++)
         printf(" %d/%d/%d/%u", statuses[k], places[k], patterns[k], got_commands[k]);
-    struct zaytulobe_run run = zaytulobe_longest_run(octets, 256 * count, statuses, count);
-    printf(" %016lx %d %lu %d %u %016lx %lu %lu", digest_of(octets, 256 * count), state->waiting, state->history, state->trusted,
-        state->command, digest_of(state->octets, 256), run.start, run.count);
+    struct zaytulobe_run run = zaytulobe_longest_run(octets, USER_OCTETS * count, statuses, count);
+    printf(" %016lx %d %lu %d %u %016lx %lu %lu", digest_of(octets, USER_OCTETS * count), state->waiting, state->history,
+        state->trusted, state->command, digest_of(state->octets, USER_OCTETS), run.start, run.count);
 }
 
 static void damaged_line(u64 seed) {
@@ -93,7 +95,7 @@ static void damaged_line(u64 seed) {
 }
 
 /* The header values of a case, one for each step. */
-enum { MOST_STEPS = 32 * 22 + 384 * 3 + 192 };
+enum { MOST_STEPS = BLOCKS * 22 + 384 * 3 + 192 };
 static u8 headers[MOST_STEPS];
 
 static u8 noisy(size noise, u8 header) {
@@ -103,7 +105,7 @@ static u8 noisy(size noise, u8 header) {
 
 static size draw_header_values(size noise, size first, size extent) {
     size steps = 0;
-    for (size bit = 66 * first; bit < 8 * drawn.lane_length; bit += 66)
+    for (size bit = BLOCK_BITS * first; bit < 8 * drawn.lane_length; bit += BLOCK_BITS)
         headers[steps++] = noisy(noise, lane[bit / 8] >> (6 - bit % 8) & 3);
     if (draw(5) != 0)
         return steps;
@@ -129,7 +131,7 @@ static void lock_line(u64 seed) {
     drawn.e = (u32)extent;
     draw_input(6 * extent + 4);
     send_input();
-    size first = draw(32 * extent);
+    size first = draw(BLOCKS * extent);
     size noise = draw(3);
     size steps = draw_header_values(noise, first, extent);
     struct zaytulobe_lock lock = zaytulobe_fresh_lock();
@@ -142,15 +144,15 @@ static void lock_line(u64 seed) {
     print_lock(lock);
 }
 
-static u8 capture[11 + 264 * MOST + 300], text[4096];
+static u8 capture[HEAD + LANE_OCTETS * MOST + 300], text[4096];
 
 static void draw_other_lane(void) {
     if (draw(64) == 0) {
-        drawn.lane_length = 264 * (239 + draw(3));
+        drawn.lane_length = LANE_OCTETS * (MOST_MULTIBLOCKS - 1 + draw(3));
         draw_octets(lane, drawn.lane_length);
     }
     if (draw(4) == 0)
-        drawn.lane_length = 264 * draw(drawn.lane_length / 264 + 1);
+        drawn.lane_length = LANE_OCTETS * draw(drawn.lane_length / LANE_OCTETS + 1);
 }
 
 static void put_extent(size e) {
@@ -160,7 +162,7 @@ static void put_extent(size e) {
 
 static size put_capture(void) {
     size length = drawn.lane_length;
-    memset(capture, 0, 11);
+    memset(capture, 0, HEAD);
     capture[3] = 3;
     capture[4] = drawn.mode;
     put_extent(drawn.e);
@@ -168,8 +170,8 @@ static size put_capture(void) {
     capture[9] = (u8)(length >> 8);
     capture[10] = (u8)length;
     for (size k = 0; k < length; k++)
-        capture[11 + k] = lane[k];
-    return 11 + length;
+        capture[HEAD + k] = lane[k];
+    return HEAD + length;
 }
 
 static size draw_capture(void) {
@@ -178,7 +180,7 @@ static size draw_capture(void) {
     draw_other_lane();
     size form = draw(12), place;
     if (form == 6) {
-        size lost = draw(264);
+        size lost = draw(LANE_OCTETS);
         drawn.lane_length -= lost < drawn.lane_length ? lost : drawn.lane_length;
     }
     size length = put_capture();
@@ -186,7 +188,7 @@ static size draw_capture(void) {
     case 0: capture[4] = (u8)draw(256); break;
     case 1: put_extent(extents[draw(4)]); break;
     case 2: put_extent(draw(65536)); break;
-    case 3: place = draw(11); capture[place] = (u8)draw(256); break;
+    case 3: place = draw(HEAD); capture[place] = (u8)draw(256); break;
     case 4: length = draw(length + 1); break;
     case 5: place = length; length += 1 + draw(300); draw_octets(capture + place, length - place); break;
     }

@@ -13,7 +13,7 @@ static struct {
     size kind;
     size lane_length;
 } drawn;
-static u8 user[256 * MOST], lane[264 * MOST];
+static u8 user[USER_OCTETS * MOST], lane[LANE_OCTETS * MOST];
 static u32 commands[MOST];
 
 /* How many multiblocks each call takes. */
@@ -21,17 +21,18 @@ static size calls[MOST_CALLS], call_count;
 
 static void draw_input(size multiblocks) {
     drawn.multiblocks = multiblocks;
-    drawn.lane_length = 264 * multiblocks;
-    draw_octets(user, 256 * multiblocks);
+    drawn.lane_length = LANE_OCTETS * multiblocks;
+    draw_octets(user, USER_OCTETS * multiblocks);
     for (size k = 0; k < multiblocks; k++)
-        commands[k] = drawn.mode == 1 ? 0 : (u32)draw(128);
+        commands[k] = drawn.mode == FEC ? 0 : (u32)draw(ZAYTULOBE_MOST_COMMAND(CRC12) + 1);
 }
 
 /* The lane that a fresh sender makes of the input in one call; of zeros if it is refused, which then shows. */
 static void send_input(void) {
     size n = drawn.multiblocks;
     memset(lane, 0, drawn.lane_length);
-    zaytulobe_send(drawn.mode, drawn.e, zaytulobe_fresh_sender(), user, 256 * n, commands, n, lane, 264 * n);
+    zaytulobe_send(drawn.mode, drawn.e, zaytulobe_fresh_sender(), user, USER_OCTETS * n, commands, n, lane,
+        LANE_OCTETS * n);
 }
 
 static void draw_settings(void) {
@@ -73,12 +74,12 @@ static void draw_far_bursts(size at_most, size lane_bits) {
             return;
         draw_bits(first, last);
         first = last + 1 + CLEAR_BITS;
-        first += draw(2112);
+        first += draw(MULTIBLOCK_BITS);
     }
 }
 
 static void draw_header(void) {
-    size bit = 66 * draw(32 * drawn.multiblocks);
+    size bit = BLOCK_BITS * draw(BLOCKS * drawn.multiblocks);
     u8 both = (u8)(192 >> bit % 8);
     if (draw(2) == 1)
         lane[bit / 8] |= both;
@@ -87,25 +88,25 @@ static void draw_header(void) {
 }
 
 static void draw_octet(void) {
-    size place = draw(264 * drawn.multiblocks);
+    size place = draw(LANE_OCTETS * drawn.multiblocks);
     lane[place] = (u8)draw(256);
 }
 
 /* Whether the header of a block carries parity: Tables 41 and 45. */
 static int carries_parity(size block) {
-    return drawn.mode == 1 ? block < 27 && block != 22 : block < 16 && block % 4 != 3;
+    return drawn.mode == FEC ? block < 27 && block != 22 : block < 16 && block % 4 != 3;
 }
 
 static void flip_parities(void) {
-    for (size block = 32 * (drawn.multiblocks / 2); block < 32 * drawn.multiblocks; block++)
-        if (carries_parity(block % 32)) {
-            flip(66 * block);
-            flip(66 * block + 1);
+    for (size block = BLOCKS * (drawn.multiblocks / 2); block < BLOCKS * drawn.multiblocks; block++)
+        if (carries_parity(block % BLOCKS)) {
+            flip(BLOCK_BITS * block);
+            flip(BLOCK_BITS * block + 1);
         }
 }
 
 static void damage(void) {
-    size limit = drawn.mode == 1 ? 9 : 12, lane_bits = 2112 * drawn.multiblocks;
+    size limit = drawn.mode == FEC ? 9 : 12, lane_bits = MULTIBLOCK_BITS * drawn.multiblocks;
     switch (drawn.kind) {
     case 1: draw_burst(limit, lane_bits); break;
     case 2: for (size left = 1 + draw(4); left > 0; left--) draw_burst(LONG_BURST, lane_bits); break;
@@ -113,7 +114,7 @@ static void damage(void) {
     case 4: for (size left = 1 + draw(64); left > 0; left--) draw_octet(); break;
     case 5: flip_parities(); break;
     case 6: draw_far_bursts(limit, lane_bits); break;
-    case 7: draw_octets(lane, 264 * drawn.multiblocks); break;
+    case 7: draw_octets(lane, LANE_OCTETS * drawn.multiblocks); break;
     }
 }
 

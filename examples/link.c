@@ -1,19 +1,26 @@
 /* Sends four multiblocks in FEC mode, flips a burst of nine lane bits, receives what is left, and prints what came back;
-   then steps the locks by the lane's headers, and lists the lane as a capture. */
+   then steps the locks by the lane's headers, and lists the lane as a capture. Compiles as C and as C++. */
 #include "zaytulobe.h"
 
+#ifdef __cplusplus
+extern "C" {
+#endif
 int printf(const char *format, ...);
 void *memcpy(void *to, const void *from, zaytulobe_size count);
+#ifdef __cplusplus
+}
+#endif
 
-enum { FEC = 1, E = 1, MULTIBLOCKS = 4, USER = 256 * MULTIBLOCKS, LANE = 264 * MULTIBLOCKS, FIRST_BIT = 3000, BITS = 9 };
+enum { MODE = ZAYTULOBE_FEC, E = 1, MULTIBLOCKS = 4, FIRST_BIT = 3000, BITS = 9 };
+enum { USER = ZAYTULOBE_USER_OCTETS * MULTIBLOCKS, LANE = ZAYTULOBE_LANE_OCTETS(MODE) * MULTIBLOCKS };
 
 static zaytulobe_u8 user[USER], lane[LANE], octets[USER];
 
 static void send(void) {
     zaytulobe_u32 commands[MULTIBLOCKS] = {0};
     for (int k = 0; k < USER; k++)
-        user[k] = (zaytulobe_u8)(k * k + k / 256);
-    struct zaytulobe_sent sent = zaytulobe_send(FEC, E, zaytulobe_fresh_sender(), user, USER, commands, MULTIBLOCKS, lane, LANE);
+        user[k] = (zaytulobe_u8)(k * k + k / ZAYTULOBE_USER_OCTETS);
+    struct zaytulobe_sent sent = zaytulobe_send(MODE, E, zaytulobe_fresh_sender(), user, USER, commands, MULTIBLOCKS, lane, LANE);
     printf("refusal %d, sent %lu\n", sent.refusal, sent.count);
 }
 
@@ -28,31 +35,31 @@ static void receive(void) {
     zaytulobe_u32 commands[MULTIBLOCKS];
     zaytulobe_u16 places[MULTIBLOCKS], patterns[MULTIBLOCKS];
     struct zaytulobe_received received = zaytulobe_receive(
-        FEC, zaytulobe_fresh_receiver(), lane, LANE, octets, USER, statuses, MULTIBLOCKS, commands, MULTIBLOCKS,
+        MODE, zaytulobe_fresh_receiver(), lane, LANE, octets, USER, statuses, MULTIBLOCKS, commands, MULTIBLOCKS,
         places, MULTIBLOCKS, patterns, MULTIBLOCKS);
-    zaytulobe_size count = received.count, same = 0;
+    zaytulobe_size count = received.count, come = ZAYTULOBE_USER_OCTETS * count, same = 0;
     printf("refusal %d, released %lu, waiting %d\n", received.refusal, count, received.state.waiting);
     for (zaytulobe_size k = 0; k < count; k++)
         printf("multiblock %lu: status %d, place %d, pattern %d\n", k, statuses[k], places[k], patterns[k]);
-    for (zaytulobe_size k = 0; k < 256 * count; k++)
+    for (zaytulobe_size k = 0; k < come; k++)
         same += octets[k] == user[k];
-    printf("%lu of %lu octets as they were sent\n", same, 256 * count);
-    struct zaytulobe_run run = zaytulobe_longest_run(octets, 256 * count, statuses, count);
+    printf("%lu of %lu octets as they were sent\n", same, come);
+    struct zaytulobe_run run = zaytulobe_longest_run(octets, come, statuses, count);
     printf("longest run: refusal %d, %lu from multiblock %lu\n", run.refusal, run.count, run.start);
 }
 
 static void lock(void) {
     struct zaytulobe_stepped stepped = {0, zaytulobe_fresh_lock()};
-    for (int bit = 0; bit < 8 * LANE; bit += 66)
-        stepped = zaytulobe_lock_step(FEC, E, stepped.lock, lane[bit / 8] >> (6 - bit % 8) & 3);
+    for (int bit = 0; bit < 8 * LANE; bit += ZAYTULOBE_BLOCK_BITS(MODE))
+        stepped = zaytulobe_lock_step(MODE, E, stepped.lock, lane[bit / 8] >> (6 - bit % 8) & 3);
     struct zaytulobe_lock locks = stepped.lock;
     printf("locks: refusal %d, headers locked %u, phase %u\n", stepped.refusal, locks.header.locked, locks.extended.phase);
 }
 
 static void list(void) {
-    static zaytulobe_u8 capture[11 + LANE] = {0, 0, 0, 3, FEC, 0, E, 0, 0, LANE / 256, LANE % 256};
-    static zaytulobe_u8 text[200];
-    memcpy(capture + 11, lane, LANE);
+    static zaytulobe_u8 capture[ZAYTULOBE_CAPTURE_HEAD + LANE] = {0, 0, 0, 3, MODE, 0, E, 0, 0, LANE / 256, LANE % 256};
+    static zaytulobe_u8 text[ZAYTULOBE_LONGEST_TEXT];
+    memcpy(capture + ZAYTULOBE_CAPTURE_HEAD, lane, LANE);
     struct zaytulobe_listed listed = zaytulobe_listing(capture, sizeof capture, text, sizeof text);
     printf("listing: refusal %d\n%.*s", listed.refusal, (int)listed.count, (const char *)text);
 }

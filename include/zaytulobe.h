@@ -1,8 +1,11 @@
 /*
  * One lane of the 64B/66B link layer of JESD204C, with CRC-12 or FEC sync words: sender, receiver, lock machines, longest
  * run and listing. The functions are proved: for every value of every argument each gives the one answer that its contract
- * states (crates/zaytulobe/src, docs/CONTRACTS.md). This header was checked against those functions by hand; examples/link.c
- * and bulk/driver.c are compiled with it and run by the gate. For x86-64 Linux.
+ * states (crates/zaytulobe/src, docs/CONTRACTS.md). For x86-64 Linux; for C from C11 on, and C++ from C++11 on.
+ *
+ * That this header is the library's is checked: the assertions at its end say where each field stands, to whoever compiles it,
+ * and the gate runs C programs that show the library to read each field there (runs/layout.c) and to have these constants
+ * (runs/constants.c).
  *
  * What the caller promises, since C can check none of it:
  * - a pointer with its length points to that many elements, aligned for their type, and is not NULL even if the length is 0;
@@ -11,17 +14,7 @@
  * All else may be any value: a mode, a number or a state that doesn't fit is refused.
  *
  * A call is refused by a number, the lowest that applies. A refused call answers its number, count 0 and the state given,
- * and writes nothing. 0: not refused.
- *   1  the mode is neither 0 (CRC-12) nor 1 (FEC)
- *   2  E is outside 1 to 256
- *   3  a field of the state is out of range
- *   4  user octets are no multiple of 256, lane octets none of 264; for the longest run, octets aren't 256 for each status
- *   5  more than 240 multiblocks in one call
- *   6  there isn't one command for each multiblock, a command is above 127, or in FEC mode not 0
- *   7  a buffer lent to be written is too short for what would be written
- *   8  a capture hasn't the form of one
- *   9  a header value is above 3
- * Empty input that isn't refused writes nothing and answers the state given.
+ * and writes nothing. Empty input that isn't refused writes nothing and answers the state given.
  */
 #ifndef ZAYTULOBE_H
 #define ZAYTULOBE_H
@@ -35,6 +28,63 @@ typedef unsigned short zaytulobe_u16;
 typedef unsigned int zaytulobe_u32;
 typedef unsigned long zaytulobe_u64;
 typedef unsigned long zaytulobe_size;
+
+enum zaytulobe_mode {
+    ZAYTULOBE_CRC12 = 0,
+    ZAYTULOBE_FEC = 1
+};
+
+enum zaytulobe_refusal {
+    ZAYTULOBE_ACCEPTED = 0,
+    ZAYTULOBE_REFUSED_MODE = 1,     /* the mode is neither 0 nor 1 */
+    ZAYTULOBE_REFUSED_E = 2,        /* E is outside 1 to 256 */
+    ZAYTULOBE_REFUSED_STATE = 3,    /* a field of the state is out of range */
+    ZAYTULOBE_REFUSED_LENGTH = 4,   /* user octets are no multiple of 256, lane octets none of 264; of the longest run, octets
+                                       aren't 256 for each status */
+    ZAYTULOBE_REFUSED_COUNT = 5,    /* more than 240 multiblocks in one call */
+    ZAYTULOBE_REFUSED_COMMANDS = 6, /* there isn't one command for each multiblock, or one is too high for the mode */
+    ZAYTULOBE_REFUSED_ROOM = 7,     /* a buffer lent to be written is too short for what would be written */
+    ZAYTULOBE_REFUSED_CAPTURE = 8,  /* a capture hasn't the form of one */
+    ZAYTULOBE_REFUSED_HEADER = 9    /* a header value is above 3 */
+};
+
+/* The status of a released multiblock is one of the first three, with the fourth added after an untrusted history. */
+enum zaytulobe_status {
+    ZAYTULOBE_AGREES = 0,   /* its parity agrees */
+    ZAYTULOBE_REPAIRED = 1, /* a burst was flipped back, and now its parity agrees */
+    ZAYTULOBE_FAILED = 2,   /* its parity disagrees, and nothing was repaired */
+    ZAYTULOBE_UNTRUSTED = 4 /* nothing came before it, or the one before had failed */
+};
+
+/* Of extended lock. */
+enum zaytulobe_phase {
+    ZAYTULOBE_HUNTING = 0,
+    ZAYTULOBE_FOLLOWING = 1,
+    ZAYTULOBE_LOCKED = 2
+};
+
+/* A multiblock: its blocks, its user octets, and by mode the bits of a block on the lane, its header among them, and the octets of
+   the multiblock there. Both modes have the same. */
+#define ZAYTULOBE_BLOCKS 32
+#define ZAYTULOBE_USER_OCTETS 256
+#define ZAYTULOBE_BLOCK_BITS(mode) 66
+#define ZAYTULOBE_LANE_OCTETS(mode) (ZAYTULOBE_BLOCKS * ZAYTULOBE_BLOCK_BITS(mode) / 8)
+
+/* By mode: the most multiblocks that one call of the sender or the receiver takes, and the highest command that is sent. One that
+   is received has the flag added if one of its headers was invalid. */
+#define ZAYTULOBE_MOST_MULTIBLOCKS(mode) 240
+#define ZAYTULOBE_MOST_COMMAND(mode) ((mode) == ZAYTULOBE_FEC ? 0 : 127)
+#define ZAYTULOBE_COMMAND_FLAG 128
+
+/* E, the multiblocks of an extended multiblock. */
+#define ZAYTULOBE_LEAST_E 1
+#define ZAYTULOBE_MOST_E 256
+
+/* Octets of a capture before those of its lane; of the longest capture that is listed; and of the longest text that a listing
+   takes: one that is lent so much is never refused by 7. */
+#define ZAYTULOBE_CAPTURE_HEAD 11
+#define ZAYTULOBE_LONGEST_CAPTURE 63371
+#define ZAYTULOBE_LONGEST_TEXT 3603
 
 /* The last 58 bits sent, the latest in bit 0; the parity of the last multiblock; the number of the next multiblock in its
    extended multiblock. */
@@ -51,14 +101,14 @@ struct zaytulobe_sent {
     struct zaytulobe_sender state;
 };
 
-/* The history before the multiblock that waits; its command, 128 more if one of its headers was invalid; whether one waits,
-   0 or 1; whether the history is trusted, 0 or 1; its 256 scrambled octets. */
+/* The history before the multiblock that waits; its command, with the flag added if one of its headers was invalid; whether one
+   waits, 0 or 1; whether the history is trusted, 0 or 1; its scrambled octets. */
 struct zaytulobe_receiver {
     zaytulobe_u64 history;
     zaytulobe_u32 command;
     zaytulobe_u8 waiting;
     zaytulobe_u8 trusted;
-    zaytulobe_u8 octets[256];
+    zaytulobe_u8 octets[ZAYTULOBE_USER_OCTETS];
 };
 
 /* A refusal, or 0 with the multiblocks released; the state for the next call. */
@@ -75,7 +125,7 @@ struct zaytulobe_run {
     zaytulobe_size count;
 };
 
-/* Whether headers are locked, 0 or 1; bits slipped, 0 to 65; valid headers in a row; bad headers while locked. */
+/* Whether headers are locked, 0 or 1; bits slipped, 0 to 65; valid headers in a row; invalid headers while locked. */
 struct zaytulobe_header_lock {
     zaytulobe_u32 locked;
     zaytulobe_u32 offset;
@@ -83,8 +133,8 @@ struct zaytulobe_header_lock {
     zaytulobe_u32 bad;
 };
 
-/* 0 hunting, 1 following, 2 locked; headers seen, at most 32; their bits, the latest in bit 0; matches while following;
-   misses while locked; blocks to the next look. */
+/* The phase; headers seen, at most 32; their bits, the latest in bit 0; matches while following; misses while locked; blocks to
+   the next look. */
 struct zaytulobe_extended_lock {
     zaytulobe_u32 phase;
     zaytulobe_u32 seen;
@@ -126,9 +176,8 @@ struct zaytulobe_sent zaytulobe_send(
 struct zaytulobe_receiver zaytulobe_fresh_receiver(void);
 
 /* Receives the multiblocks of the lane, 264 octets each. A multiblock is released when the next has come: release k of this
-   call writes 256 octets from 256 k on, and place k of each list: its status (0 parity agrees, 1 a burst was flipped, 2
-   failed, and 4 more after an untrusted history), its command, and the place and pattern of the burst. All else keeps its
-   values. Refused by 1, 3, 4, 5 or 7. */
+   call writes 256 octets from 256 k on, and place k of each list: its status, its command, and the place and pattern of the burst
+   that was flipped back, or 0 and 0. All else keeps its values. Refused by 1, 3, 4, 5 or 7. */
 struct zaytulobe_received zaytulobe_receive(
     zaytulobe_u8 mode, struct zaytulobe_receiver state,
     const zaytulobe_u8 *lane, zaytulobe_size lane_length,
@@ -160,5 +209,78 @@ struct zaytulobe_listed zaytulobe_listing(
 #ifdef __cplusplus
 }
 #endif
+
+/* Where the library has each field, as #[repr(C)] lays it down for x86-64: a struct and its octets; a field of it, the octets
+   before it and its own. */
+#ifdef __cplusplus
+#define ZAYTULOBE_ASSERT(what, text) static_assert(what, text)
+#else
+#define ZAYTULOBE_ASSERT(what, text) _Static_assert(what, text)
+#endif
+#define ZAYTULOBE_STRUCT(name, octets) \
+    ZAYTULOBE_ASSERT(sizeof(struct zaytulobe_##name) == (octets), "zaytulobe_" #name " has another size in the library")
+#define ZAYTULOBE_FIELD(name, field, before, octets) \
+    ZAYTULOBE_ASSERT(__builtin_offsetof(struct zaytulobe_##name, field) == (before) && \
+        sizeof(((struct zaytulobe_##name *)0)->field) == (octets), \
+        "zaytulobe_" #name "." #field " has another place or size in the library")
+
+ZAYTULOBE_STRUCT(sender, 16);
+ZAYTULOBE_FIELD(sender, history, 0, 8);
+ZAYTULOBE_FIELD(sender, parity, 8, 4);
+ZAYTULOBE_FIELD(sender, number, 12, 4);
+
+ZAYTULOBE_STRUCT(sent, 32);
+ZAYTULOBE_FIELD(sent, refusal, 0, 1);
+ZAYTULOBE_FIELD(sent, count, 8, 8);
+ZAYTULOBE_FIELD(sent, state, 16, 16);
+
+ZAYTULOBE_STRUCT(receiver, 272);
+ZAYTULOBE_FIELD(receiver, history, 0, 8);
+ZAYTULOBE_FIELD(receiver, command, 8, 4);
+ZAYTULOBE_FIELD(receiver, waiting, 12, 1);
+ZAYTULOBE_FIELD(receiver, trusted, 13, 1);
+ZAYTULOBE_FIELD(receiver, octets, 14, 256);
+
+ZAYTULOBE_STRUCT(received, 288);
+ZAYTULOBE_FIELD(received, refusal, 0, 1);
+ZAYTULOBE_FIELD(received, count, 8, 8);
+ZAYTULOBE_FIELD(received, state, 16, 272);
+
+ZAYTULOBE_STRUCT(run, 24);
+ZAYTULOBE_FIELD(run, refusal, 0, 1);
+ZAYTULOBE_FIELD(run, start, 8, 8);
+ZAYTULOBE_FIELD(run, count, 16, 8);
+
+ZAYTULOBE_STRUCT(header_lock, 16);
+ZAYTULOBE_FIELD(header_lock, locked, 0, 4);
+ZAYTULOBE_FIELD(header_lock, offset, 4, 4);
+ZAYTULOBE_FIELD(header_lock, run, 8, 4);
+ZAYTULOBE_FIELD(header_lock, bad, 12, 4);
+
+ZAYTULOBE_STRUCT(extended_lock, 24);
+ZAYTULOBE_FIELD(extended_lock, phase, 0, 4);
+ZAYTULOBE_FIELD(extended_lock, seen, 4, 4);
+ZAYTULOBE_FIELD(extended_lock, headers, 8, 4);
+ZAYTULOBE_FIELD(extended_lock, good, 12, 4);
+ZAYTULOBE_FIELD(extended_lock, bad, 16, 4);
+ZAYTULOBE_FIELD(extended_lock, next, 20, 4);
+
+ZAYTULOBE_STRUCT(lock, 40);
+ZAYTULOBE_FIELD(lock, header, 0, 16);
+ZAYTULOBE_FIELD(lock, extended, 16, 24);
+
+ZAYTULOBE_STRUCT(stepped, 44);
+ZAYTULOBE_FIELD(stepped, refusal, 0, 1);
+ZAYTULOBE_FIELD(stepped, lock, 4, 40);
+
+ZAYTULOBE_STRUCT(listed, 16);
+ZAYTULOBE_FIELD(listed, refusal, 0, 1);
+ZAYTULOBE_FIELD(listed, count, 8, 8);
+
+ZAYTULOBE_ASSERT(sizeof(zaytulobe_u16) == 2, "a place and a pattern have two octets each in the library");
+
+#undef ZAYTULOBE_ASSERT
+#undef ZAYTULOBE_STRUCT
+#undef ZAYTULOBE_FIELD
 
 #endif

@@ -3,21 +3,15 @@
 #ifndef LANE_H
 #define LANE_H
 
-#include "zaytulobe.h"
+#include "../bulk/short.h"
 
 int printf(const char *format, ...);
 int memcmp(const void *one, const void *other, zaytulobe_size count);
 void *memset(void *to, int value, zaytulobe_size count);
 _Noreturn void exit(int status);
 
-typedef zaytulobe_u8 u8;
-typedef zaytulobe_u16 u16;
-typedef zaytulobe_u32 u32;
-typedef zaytulobe_u64 u64;
-typedef zaytulobe_size size;
-
-enum { CRC12 = 0, FEC = 1, MOST_MULTIBLOCKS = 240, LONGEST_LANE = 1320, LONGEST_CALL = 242 };
-enum { USER_OCTETS = 256, LANE_OCTETS = 264, DATA_BITS = 2048, BLOCK_BITS = 66, MULTIBLOCK_BITS = 2112 };
+/* In multiblocks: the longest lane of a run, and more than a call takes. */
+enum { LONGEST_LANE = 1320, LONGEST_CALL = MOST_MULTIBLOCKS + 2 };
 enum { UNTOUCHED = 0xEE };
 
 static u8 user[USER_OCTETS * LONGEST_LANE], lane[LANE_OCTETS * LONGEST_LANE];
@@ -41,17 +35,17 @@ static inline void stop(const char *why) {
     exit(1);
 }
 
-/* The lane that a fresh sender makes of the first user octets, so many multiblocks, in calls of at most 240; its end state. */
+/* The lane that a fresh sender makes of the first user octets, so many multiblocks, in the longest calls; its end state. */
 static inline struct zaytulobe_sender send_user(u8 mode, u32 e, size multiblocks) {
     struct zaytulobe_sender state = zaytulobe_fresh_sender();
     for (size k = 0; k < multiblocks; k++)
-        sent_commands[k] = mode == FEC ? 0 : (u32)(37 * k % 128);
+        sent_commands[k] = (u32)(37 * k % (ZAYTULOBE_MOST_COMMAND(mode) + 1));
     for (size start = 0; start < multiblocks; start += MOST_MULTIBLOCKS) {
         size left = multiblocks - start, count = left < MOST_MULTIBLOCKS ? left : MOST_MULTIBLOCKS;
         struct zaytulobe_sent sent = zaytulobe_send(
             mode, e, state, user + USER_OCTETS * start, USER_OCTETS * count, sent_commands + start, count,
             lane + LANE_OCTETS * start, LANE_OCTETS * count);
-        if (sent.refusal != 0 || sent.count != count)
+        if (sent.refusal != ZAYTULOBE_ACCEPTED || sent.count != count)
             stop("the sender refused");
         state = sent.state;
     }
@@ -61,7 +55,7 @@ static inline struct zaytulobe_sender send_user(u8 mode, u32 e, size multiblocks
 /* Such a lane of user octets without a plan. */
 static inline struct zaytulobe_sender make_lane(u8 mode, u32 e, size multiblocks) {
     for (size k = 0; k < USER_OCTETS * multiblocks; k++)
-        user[k] = (u8)(k * k / 5 + k / 256);
+        user[k] = (u8)(k * k / 5 + k / USER_OCTETS);
     return send_user(mode, e, multiblocks);
 }
 

@@ -3,13 +3,13 @@
 #include "lane.h"
 
 enum { INVALID = 0, ONE = 1, ZERO = 2, ALSO_INVALID = 3 };
-enum { HUNTING = 0, FOLLOWING = 1, LOCKED = 2 };
+enum { HUNTING = ZAYTULOBE_HUNTING, FOLLOWING = ZAYTULOBE_FOLLOWING, LOCKED = ZAYTULOBE_LOCKED };
 
 typedef struct zaytulobe_lock locks;
 
 static locks stepped(u8 mode, u32 e, locks state, u8 header) {
     struct zaytulobe_stepped next = zaytulobe_lock_step(mode, e, state, header);
-    if (next.refusal != 0)
+    if (next.refusal != ZAYTULOBE_ACCEPTED)
         stop("the locks refused");
     return next.lock;
 }
@@ -23,7 +23,8 @@ static locks fed(locks state, u8 header, u32 count) {
 
 static void print_header(const char *label, locks state) {
     struct zaytulobe_header_lock header = state.header;
-    printf("%s: %s, offset %u, run %u, bad %u\n", label, header.locked ? "locked" : "hunting", header.offset, header.run, header.bad);
+    printf("%s: %s, ", label, header.locked ? "locked" : "hunting");
+    printf("offset %u, run %u, bad %u\n", header.offset, header.run, header.bad);
 }
 
 static void run_header(void) {
@@ -72,7 +73,7 @@ static void print_start(u8 mode, u32 e, size from) {
 /* From every so many blocks of the first extended multiblock. The block 95 before its end is among them: one block too few
    for header lock and 32 headers more, so that this end is missed, and the wait is the longest. */
 static void print_range(u8 mode, u32 e, size step) {
-    size bound = 95 + 128 * e, blocks = 32 * e, least = bound, most = 0, held = 0, count = 0;
+    size bound = 95 + 128 * e, blocks = BLOCKS * e, least = bound, most = 0, held = 0, count = 0;
     for (size from = (3 * blocks - 95) % blocks % step; from < blocks; from += step, count++) {
         size after = both_after(mode, e, from, bound);
         held += after != 0;
@@ -93,7 +94,7 @@ static void run_starts(u8 mode, u32 e, const size starts[STARTS], size step) {
 
 /* Lanes of user octets without a plan, and with FEC also of zeros, whose parity is 0 throughout. */
 static void run_lanes(u32 e, const size starts[STARTS], size step) {
-    size multiblocks = (160 * e + 95) / 32 + 1;
+    size multiblocks = (160 * e + 95) / BLOCKS + 1;
     make_lane(CRC12, e, multiblocks);
     printf("CRC-12, E %u, a lane of various octets:\n", e);
     run_starts(CRC12, e, starts, step);
@@ -107,7 +108,8 @@ static void run_lanes(u32 e, const size starts[STARTS], size step) {
 }
 
 static void run_all_lanes(void) {
-    static const size one[STARTS] = {0, 1, 2, 16, 31}, two[STARTS] = {0, 32, 33, 34, 63}, many[STARTS] = {0, 4096, 8096, 8097, 8098};
+    static const size one[STARTS] = {0, 1, 2, 16, 31}, two[STARTS] = {0, 32, 33, 34, 63};
+    static const size many[STARTS] = {0, 4096, 8096, 8097, 8098};
     run_lanes(1, one, 1);
     run_lanes(2, two, 1);
     run_lanes(256, many, 63);
@@ -117,7 +119,7 @@ static void run_all_lanes(void) {
 static void run_slips(u8 mode, size from) {
     locks state = zaytulobe_fresh_lock();
     size blocks = 0;
-    make_lane(mode, 1, 240);
+    make_lane(mode, 1, MOST_MULTIBLOCKS);
     for (; !state.header.locked && blocks < 7000; blocks++)
         state = stepped(mode, 1, state, header_at(from + state.header.offset + BLOCK_BITS * blocks));
     printf("%s, a lane read from its bit %lu on: header lock %s, offset %u\n", name_of(mode), from,
@@ -134,8 +136,8 @@ static void print_extended(const char *label, locks state) {
 /* So many multiblocks, each with the end mark or without it. */
 static locks fed_words(u32 e, locks state, size count, int mark) {
     u32 word = mark ? 0x11111701 : 0x11111501;
-    for (size k = 0; k < 32 * count; k++)
-        state = stepped(CRC12, e, state, word >> (31 - k % 32) & 1 ? ONE : ZERO);
+    for (size k = 0; k < BLOCKS * count; k++)
+        state = stepped(CRC12, e, state, word >> (31 - k % BLOCKS) & 1 ? ONE : ZERO);
     return state;
 }
 
@@ -169,7 +171,7 @@ static int same_locks(locks one, locks other) {
 static void try_step(const char *label, u8 mode, u32 e, locks state, u8 header) {
     struct zaytulobe_stepped next = zaytulobe_lock_step(mode, e, state, header);
     printf("%s: ", label);
-    if (next.refusal == 0)
+    if (next.refusal == ZAYTULOBE_ACCEPTED)
         printf("accepted\n");
     else
         printf("refused %d, %s\n", next.refusal, same_locks(next.lock, state) ? "the state given" : "ANOTHER STATE");

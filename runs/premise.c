@@ -81,7 +81,7 @@ static int touched(size first, size last) {
 }
 
 static int touched_data(size multiblock) {
-    for (size block = 0; block < 32; block++) {
+    for (size block = 0; block < BLOCKS; block++) {
         size start = MULTIBLOCK_BITS * multiblock + BLOCK_BITS * block;
         if (touched(start + 2, start + BLOCK_BITS))
             return 1;
@@ -90,18 +90,18 @@ static int touched_data(size multiblock) {
 }
 
 static int is_failed(size k) {
-    return out.statuses[k] == 2 || out.statuses[k] == 6;
+    return (out.statuses[k] & ~ZAYTULOBE_UNTRUSTED) == ZAYTULOBE_FAILED;
 }
 
 static int is_sound(size k, size octet) {
-    u8 status = out.statuses[k];
-    return status == 0 || status == 1 || (octet >= 8 && (status == 4 || status == 5));
+    return !is_failed(k) && (octet >= 8 || !(out.statuses[k] & ZAYTULOBE_UNTRUSTED));
 }
 
 static size wrong_octets(size k, int only_sound) {
     size wrong = 0;
+    const u8 *come = out.octets + USER_OCTETS * k, *sent = user + USER_OCTETS * (BEFORE + k);
     for (size octet = 0; octet < USER_OCTETS; octet++)
-        wrong += (!only_sound || is_sound(k, octet)) && out.octets[USER_OCTETS * k + octet] != user[USER_OCTETS * (BEFORE + k) + octet];
+        wrong += (!only_sound || is_sound(k, octet)) && come[octet] != sent[octet];
     return wrong;
 }
 
@@ -120,7 +120,7 @@ static void print_promise_crc12(void) {
         failed += was_hit && is_failed(k);
         wrong += wrong_octets(k, 1);
         clear += was_clear;
-        agree += was_clear && out.statuses[k] == 0;
+        agree += was_clear && out.statuses[k] == ZAYTULOBE_AGREES;
     }
     printf("  of %lu released, hit in their data: %lu, of these with status 2 or 6: %lu\n", released, hits, failed);
     printf("  sound octets that are wrong: %lu\n", wrong);

@@ -96,7 +96,7 @@ static void print_clean(size count) {
     size clean = 0;
     for (size k = 0; k < count; k++)
         clean += memcmp(out.octets + USER_OCTETS * k, user + USER_OCTETS * k, USER_OCTETS) == 0
-            && out.commands[k] == sent_commands[k] && out.statuses[k] == (k == 0 ? 4 : 0)
+            && out.commands[k] == sent_commands[k] && out.statuses[k] == (k == 0 ? ZAYTULOBE_UNTRUSTED : ZAYTULOBE_AGREES)
             && out.places[k] == 0 && out.patterns[k] == 0;
     printf("  octets and command as sent, status 4 of the first and 0 of the others: %lu of %lu\n", clean, count);
 }
@@ -260,7 +260,7 @@ static void try_statuses(const char *statuses, size octets) {
     }
     printf("%s with %lu octets: ", count ? "" : " none", octets);
     struct zaytulobe_run run = zaytulobe_longest_run(user, octets, list, count);
-    if (run.refusal != 0)
+    if (run.refusal != ZAYTULOBE_ACCEPTED)
         printf("refused %d, ", run.refusal);
     printf("%lu from multiblock %lu\n", run.count, run.start);
 }
@@ -285,6 +285,15 @@ static void run_longest(void) {
     try_statuses("0", 0);
 }
 
+/* Two runs as long as each other, multiblocks 1 and 2 and 4 and 5, whose octets are equal: the place alone tells them apart. */
+static void run_tied(void) {
+    memset(user, 165, sizeof user);
+    int equal = memcmp(user + USER_OCTETS, user + 4 * USER_OCTETS, 2 * USER_OCTETS) == 0;
+    printf("two runs that tie, %s octets:\n", equal ? "with equal" : "WITH UNLIKE");
+    try_statuses("2012014", 7 * USER_OCTETS);
+    try_statuses("2102102", 7 * USER_OCTETS);
+}
+
 int main(void) {
     run_bursts_fec();
     run_bursts_crc12();
@@ -299,5 +308,6 @@ int main(void) {
     run_cuts(CRC12, 8);
     run_cuts(FEC, 8);
     run_longest();
+    run_tied();
     return 0;
 }

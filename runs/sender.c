@@ -24,7 +24,7 @@ static int untouched_from(size octets) {
 /* The bits that the headers of the lane's first multiblock carry: 01 carries 1. */
 static u32 first_word(void) {
     u32 word = 0;
-    for (size block = 0; block < 32; block++)
+    for (size block = 0; block < BLOCKS; block++)
         word = 2 * word + lane_bit(BLOCK_BITS * block + 1);
     return word;
 }
@@ -52,7 +52,7 @@ static void try_call(
     sent_commands[0] = command;
     struct zaytulobe_sent sent = zaytulobe_send(mode, e, state, user, octets, sent_commands, commands, lane, room);
     printf("%s: ", label);
-    if (sent.refusal == 0)
+    if (sent.refusal == ZAYTULOBE_ACCEPTED)
         print_sent(sent);
     else
         print_refused(sent, state);

@@ -1,0 +1,194 @@
+/* Each field of each struct of include/zaytulobe.h stands where the library reads and writes it. Of a field of a state its highest
+   value is accepted, and the next value in that field alone is refused by 3, with the whole state given back: document 01, "Numbers
+   of refusal". No two fields of a state have the same highest value but two flags, which are told apart by what they do; so is what
+   has no highest value. layout.txt has the lines expected. */
+#include "lane.h"
+
+static struct releases out;
+
+/* A field with a highest value: what comes of it and of the next, each refused or not, and whether all came back that was given. */
+static void print_field(const char *field, u64 highest, int of_highest, int of_next, int given_back) {
+    printf("%s: %lu %s, %lu ", field, highest, of_highest == ZAYTULOBE_ACCEPTED ? "accepted" : "REFUSED", highest + 1);
+    if (of_next == ZAYTULOBE_ACCEPTED)
+        printf("ACCEPTED\n");
+    else
+        printf("refused %d, %s\n", of_next, given_back ? "the state given" : "ANOTHER STATE");
+}
+
+static struct zaytulobe_sent send_one(struct zaytulobe_sender state) {
+    static const u32 no_command[1];
+    return zaytulobe_send(CRC12, 4, state, user, USER_OCTETS, no_command, 1, lane, LANE_OCTETS);
+}
+
+static void try_sender(const char *field, u64 highest, struct zaytulobe_sender fits, struct zaytulobe_sender next) {
+    int fitting = send_one(fits).refusal;
+    struct zaytulobe_sent refused = send_one(next);
+    print_field(field, highest, fitting, refused.refusal, memcmp(&refused.state, &next, sizeof next) == 0);
+}
+
+static void run_sender(void) {
+    u64 bits58 = (1UL << 58) - 1;
+    struct zaytulobe_sender fits[3] = {{.history = bits58}, {.parity = 4095}, {.number = 3}};
+    struct zaytulobe_sender next[3] = {{.history = bits58 + 1}, {.parity = 4096}, {.number = 4}};
+    try_sender("sender.history", bits58, fits[0], next[0]);
+    try_sender("sender.parity, CRC-12", 4095, fits[1], next[1]);
+    try_sender("sender.number, E 4", 3, fits[2], next[2]);
+}
+
+/* Each number of what comes back from sending three multiblocks is worked from the lane. */
+static void run_sent(void) {
+    struct zaytulobe_sender after = make_lane(CRC12, 4, 3);
+    u64 history = 0;
+    for (size bit = 3 * MULTIBLOCK_BITS - 58; bit < 3 * MULTIBLOCK_BITS; bit++)
+        history = 2 * history + lane_bit(bit);
+    send_one(after);
+    u32 parity = 0;
+    for (size block = 0; block < 16; block++)
+        parity = block % 4 == 3 ? parity : 2 * parity + lane_bit(BLOCK_BITS * block + 1);
+    printf("sent.state after 3 multiblocks: history %s, ", after.history == history ? "the last 58 bits on the lane" : "OTHERS");
+    printf("parity %s, number %u\n", after.parity == parity ? "what the next sync word carries" : "ANOTHER", after.number);
+    struct zaytulobe_sent sent = zaytulobe_send(CRC12, 4, after, user, 3 * USER_OCTETS, sent_commands, 3, lane, sizeof lane);
+    printf("sent: refusal %d, count %lu", sent.refusal, sent.count);
+    sent = zaytulobe_send(CRC12, 4, after, user, 1, sent_commands, 3, lane, sizeof lane);
+    printf("; of 1 user octet: refusal %d, count %lu\n", sent.refusal, sent.count);
+}
+
+static int same_receiver(struct zaytulobe_receiver one, struct zaytulobe_receiver other) {
+    return one.history == other.history && one.command == other.command && one.waiting == other.waiting
+        && one.trusted == other.trusted && memcmp(one.octets, other.octets, USER_OCTETS) == 0;
+}
+
+static void try_receiver(const char *field, u64 highest, struct zaytulobe_receiver fits, struct zaytulobe_receiver next) {
+    int fitting = receive(CRC12, fits, 0, 1, &out, 0).refusal;
+    struct zaytulobe_received refused = receive(CRC12, next, 0, 1, &out, 0);
+    print_field(field, highest, fitting, refused.refusal, same_receiver(refused.state, next));
+}
+
+/* With one waiting each field may have any value up to its highest. */
+static void run_receiver(void) {
+    u64 bits58 = (1UL << 58) - 1;
+    struct zaytulobe_receiver fits[4] = {{.history = bits58}, {.command = 255}, {.waiting = 1}, {.trusted = 1}};
+    struct zaytulobe_receiver next[4] = {{.history = bits58 + 1}, {.command = 256}, {.waiting = 2}, {.trusted = 2}};
+    for (int k = 0; k < 4; k++) {
+        fits[k].waiting = 1;
+        next[k].waiting = k == 2 ? 2 : 1;
+    }
+    try_receiver("receiver.history", bits58, fits[0], next[0]);
+    try_receiver("receiver.command, CRC-12", 255, fits[1], next[1]);
+    try_receiver("receiver.waiting", 1, fits[2], next[2]);
+    try_receiver("receiver.trusted", 1, fits[3], next[3]);
+}
+
+/* The two flags by what they do. Of 256 octets all but one 0: the release has its first octet that isn't 0 there. */
+static void run_flags_and_octets(void) {
+    make_lane(CRC12, 1, 1);
+    struct zaytulobe_receiver none = zaytulobe_fresh_receiver(), waits = none, trusts = none;
+    size refused = 0, first = 0;
+    waits.waiting = 1;
+    trusts.waiting = trusts.trusted = 1;
+    printf("receiver.waiting 0, then 1: released %lu", receive(CRC12, none, 0, 1, &out, 0).count);
+    printf(", then %lu\n", receive(CRC12, waits, 0, 1, &out, 0).count);
+    printf("receiver.trusted 0, then 1: status %d", out.statuses[0]);
+    receive(CRC12, trusts, 0, 1, &out, 0);
+    printf(", then %d\n", out.statuses[0]);
+    for (size k = 0; k < USER_OCTETS; k++) {
+        struct zaytulobe_receiver idle = none, one = waits;
+        size at = 0;
+        idle.octets[k] = one.octets[k] = 1;
+        struct zaytulobe_received given = receive(CRC12, idle, 0, 1, &out, 0);
+        refused += given.refusal == ZAYTULOBE_REFUSED_STATE && same_receiver(given.state, idle);
+        receive(CRC12, one, 0, 1, &out, 0);
+        while (at < USER_OCTETS && out.octets[at] == 0)
+            at++;
+        first += at == k;
+    }
+    printf("receiver.octets, nothing waiting: one of them 1 refused 3, the state given: %lu of %d\n", refused, USER_OCTETS);
+    printf("receiver.octets, one waiting: one of them 1 is the first not 0 in the release: %lu of %d\n", first, USER_OCTETS);
+}
+
+/* Each number of what comes back from receiving three multiblocks is worked from the lane. */
+static void run_received(void) {
+    make_lane(CRC12, 4, 3);
+    struct zaytulobe_received received = receive(CRC12, zaytulobe_fresh_receiver(), 0, 3, &out, 0);
+    u64 history = 0;
+    size wrong = 0;
+    for (size bit = 2 * MULTIBLOCK_BITS - 58; bit < 2 * MULTIBLOCK_BITS; bit++)
+        history = 2 * history + lane_bit(bit);
+    for (size position = 0; position < DATA_BITS; position++)
+        wrong += (received.state.octets[position / 8] >> (7 - position % 8) & 1) != lane_bit(place_of(CRC12, 2, position));
+    printf("received: refusal %d, count %lu; state: ", received.refusal, received.count);
+    printf("history %s, ", received.state.history == history ? "the last 58 bits of the released" : "OTHERS");
+    printf("command %u of %u sent, ", received.state.command, sent_commands[2]);
+    printf("waiting %d, trusted %d, ", received.state.waiting, received.state.trusted);
+    printf("octets %s\n", wrong == 0 ? "those on the lane" : "OTHERS");
+    received = zaytulobe_receive(CRC12, zaytulobe_fresh_receiver(), lane, 1, out.octets, 0, out.statuses, 0, out.commands, 0,
+        out.places, 0, out.patterns, 0);
+    printf("received of 1 lane octet: refusal %d, count %lu\n", received.refusal, received.count);
+}
+
+static void try_lock(const char *field, u64 highest, u32 e, struct zaytulobe_lock fits, struct zaytulobe_lock next) {
+    int fitting = zaytulobe_lock_step(CRC12, e, fits, 1).refusal;
+    struct zaytulobe_stepped refused = zaytulobe_lock_step(CRC12, e, next, 1);
+    print_field(field, highest, fitting, refused.refusal, memcmp(&refused.lock, &next, sizeof next) == 0);
+}
+
+static void run_header_lock(void) {
+    struct zaytulobe_lock holds = {.header = {.locked = 1}}, fits = holds, next = holds;
+    next.header.locked = 2;
+    try_lock("lock.header.locked", 1, 2, fits, next);
+    fits = next = holds, fits.header.offset = 65, next.header.offset = 66;
+    try_lock("lock.header.offset", 65, 2, fits, next);
+    fits = next = holds, fits.header.run = 63, next.header.run = 64;
+    try_lock("lock.header.run", 63, 2, fits, next);
+    fits = next = holds, fits.header.bad = 15, next.header.bad = 16;
+    try_lock("lock.header.bad", 15, 2, fits, next);
+}
+
+/* Extended lock under header lock, with E 2: next is at most 64. */
+static void try_extended(const char *field, u64 highest, struct zaytulobe_extended_lock fits, struct zaytulobe_extended_lock next) {
+    struct zaytulobe_lock fitting = {{.locked = 1}, fits}, exceeding = {{.locked = 1}, next};
+    try_lock(field, highest, 2, fitting, exceeding);
+}
+
+static void run_extended_lock(void) {
+    struct zaytulobe_extended_lock hunts = {.seen = 31}, follows = {.phase = ZAYTULOBE_FOLLOWING, .seen = 32, .good = 1, .next = 1};
+    struct zaytulobe_extended_lock holds = {.phase = ZAYTULOBE_LOCKED, .seen = 32, .next = 1}, fits = holds, next = holds;
+    next.phase = 3;
+    try_extended("lock.extended.phase", 2, fits, next);
+    fits = next = hunts, fits.seen = 32, next.seen = 33;
+    try_extended("lock.extended.seen", 32, fits, next);
+    fits = next = hunts, fits.headers = 0x7fffffff, next.headers = 0x80000000;
+    try_extended("lock.extended.headers, 31 seen", 0x7fffffff, fits, next);
+    fits = next = follows, fits.good = 3, next.good = 4;
+    try_extended("lock.extended.good", 3, fits, next);
+    fits = next = holds, fits.bad = 7, next.bad = 8;
+    try_extended("lock.extended.bad", 7, fits, next);
+    fits = next = holds, fits.next = 64, next.next = 65;
+    try_extended("lock.extended.next, E 2", 64, fits, next);
+}
+
+static void run_answers(void) {
+    static const u8 statuses[5] = {ZAYTULOBE_FAILED, ZAYTULOBE_AGREES, ZAYTULOBE_AGREES, ZAYTULOBE_REPAIRED, ZAYTULOBE_FAILED};
+    struct zaytulobe_run run = zaytulobe_longest_run(user, sizeof statuses * USER_OCTETS, statuses, sizeof statuses);
+    printf("run of statuses 2 0 0 1 2: refusal %d, start %lu, count %lu", run.refusal, run.start, run.count);
+    run = zaytulobe_longest_run(user, 1, statuses, sizeof statuses);
+    printf("; of 1 octet: refusal %d, start %lu, count %lu\n", run.refusal, run.start, run.count);
+    static const u8 capture[HEAD] = {0, 0, 0, 3, FEC, 0, 7};
+    u8 text[16];
+    struct zaytulobe_listed listed = zaytulobe_listing(capture, HEAD, text, sizeof text);
+    printf("listed, a capture without a lane: refusal %d, count %lu", listed.refusal, listed.count);
+    listed = zaytulobe_listing(capture, 1, text, sizeof text);
+    printf("; of 1 octet: refusal %d, count %lu\n", listed.refusal, listed.count);
+}
+
+int main(void) {
+    run_sender();
+    run_sent();
+    run_receiver();
+    run_flags_and_octets();
+    run_received();
+    run_header_lock();
+    run_extended_lock();
+    run_answers();
+    return 0;
+}
