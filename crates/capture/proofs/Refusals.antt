@@ -1,29 +1,47 @@
 -- What each refusal of a capture comes from, and what an accepted capture is: document 01, "Capture and listing". Assumes nothing.
 use mathlib.Core.Path.{_≡_, refl, sym, ap, _∙_}
-use mathlib.Core.Bool.{Bool, true, false, _&&_}
-use mathlib.Core.List.{List}
-use Prim.Native.Nat.{ℕ, _-_, _%_, _≤_, _<_}
+use mathlib.Core.Bool.{Bool, true, false, not, _&&_}
+use mathlib.Core.List.{List, [], _∷_, _++_}
+use Prim.Native.Nat.{ℕ, _+_, _-_, _*_, _%_, _≤_, _<_}
 use native.Mathlib.Omega.{arith}
-use borrow.Author.Tests.{le-leb, lt-leb, le-ltb, lt-ltb, eq-eqb, ne-eqb, leb-true, ltb-false, eqb-true}
-use lib.Dec.{ltb, leb, eqb}
 use native.Mathlib.Decide.{ℕ-discrete}
-use lib.ListN.{length, take, drop, length-drop}
+use borrow.Author.Tests.{not-false, le-leb, lt-leb, eq-eqb, ne-eqb, leb-true, eqb-true}
+use lib.Dec.{leb, eqb}
+use lib.ListN.{length, getD, take, drop, length-drop}
 use lib.Seq.{take-all}
-use Rattle.bits.specs.Choice.{pick}
 use Rattle.bits.specs.Order.{bitAt, number}
-use Rattle.frame.specs.Modes.{row}
+use Rattle.bits.specs.Refusals.{Line, _when_, refusalBy}
+use Rattle.bits.proofs.Choice.{parts-true}
+use Rattle.bits.proofs.Refusals.{Given, first, later, given, passed, none-left, not-given, whenever, only-when}
+use Rattle.frame.specs.declared.modes.Row.{Row}
+use Rattle.frame.specs.declared.modes.Numbers.{Numbers}
+use Rattle.frame.specs.Modes.{known, row, numbersOf, longestLane, extentFits}
 use Rattle.frame.specs.Lane.{laneOctets}
-use Rattle.frame.proofs.Sizes.{row-octets}
 use Rattle.capture.specs.declared.Opened.{Opened}
-use Rattle.capture.specs.Form.{wellFormed, modeOf, extentOf, laneOf, refusalOf, opened}
+use Rattle.capture.specs.Form.{modeOf, extentOf, laneOf, longestOf, wellFormed, refusals, refusalOf, opened}
 
 pub lane-length : (capture : List ℕ) → length (laneOf capture) ≡ length capture - 11
 unfolding laneOf
 lane-length capture = length-drop 11 capture
 
--- what is left of the lane after whole multiblocks
-lane-rest : (capture : List ℕ) → length (laneOf capture) % laneOctets (row (modeOf capture) .gap) ≡ (length capture - 11) % 264
-lane-rest capture = rw (row-octets (modeOf capture), lane-length capture)
+-- ---- the most lane octets
+
+pub longest-known : (mode : ℕ) → known mode ≡ true → longestOf mode ≡ laneOctets (row mode .gap) * row mode .most
+unfolding longestOf
+longest-known mode e = rw e
+
+pub longest-unknown : (mode : ℕ) → known mode ≡ false → longestOf mode ≡ longestLane
+unfolding longestOf
+longest-unknown mode e = rw e
+
+-- as code multiplies it
+pub longest-product : (mode : ℕ) (R : Row) (N : Numbers) → R ≡ row mode → N ≡ numbersOf R → N .octets * R .most ≡ laneOctets (row mode .gap) * row mode .most
+longest-product mode R N er en = rw (en, er)
+
+-- and reads it
+pub longest-read : (capture : List ℕ) (mode longest : ℕ) → mode ≡ getD capture 4 0 → longest ≡ longestOf mode → longest ≡ longestOf (modeOf capture)
+unfolding modeOf
+longest-read capture mode longest em el = el ∙ ap longestOf em
 
 -- ---- 8
 
@@ -33,103 +51,119 @@ module _ (capture : List ℕ) where
   too-short h = rw (lt-leb 11 (length capture) h)
 
   module _ (long : 11 ≤ length capture) where
-    pub too-long : 63371 < length capture → false ≡ wellFormed capture
+    pub too-long : 11 + longestOf (modeOf capture) < length capture → false ≡ wellFormed capture
     unfolding wellFormed
-    too-long h = rw (le-leb 11 (length capture) long, lt-leb (length capture) 63371 h)
+    too-long h = rw (le-leb 11 (length capture) long, lt-leb (length capture) (11 + longestOf (modeOf capture)) h)
 
-    module _ (short : length capture ≤ 63371) (first : ℕ) (f : first ≡ number (bitAt capture) 0 32) where
+    module _ (short : length capture ≤ 11 + longestOf (modeOf capture)) (first : ℕ) (f : first ≡ number (bitAt capture) 0 32) where
       pub settings-miscounted : (first ≡ 3 → ⊥) → false ≡ wellFormed capture
       unfolding wellFormed
-      settings-miscounted n = rw (le-leb 11 (length capture) long, le-leb (length capture) 63371 short, ← f, ne-eqb first 3 n)
+      settings-miscounted n =
+          rw (le-leb 11 (length capture) long, le-leb (length capture) (11 + longestOf (modeOf capture)) short, ← f, ne-eqb first 3 n)
 
       module _ (three : first ≡ 3) (second : ℕ) (s : second ≡ number (bitAt capture) 56 32) where
         pub lane-miscounted : (second ≡ length capture - 11 → ⊥) → false ≡ wellFormed capture
         unfolding wellFormed
         lane-miscounted n =
-            rw (le-leb 11 (length capture) long, le-leb (length capture) 63371 short, ← f, eq-eqb first 3 three, ← s, ne-eqb second (length capture - 11) n)
+            rw (le-leb 11 (length capture) long, le-leb (length capture) (11 + longestOf (modeOf capture)) short, ← f, eq-eqb first 3 three, ← s, ne-eqb second (length capture - 11) n)
 
         pub formed : second ≡ length capture - 11 → true ≡ wellFormed capture
         unfolding wellFormed
         formed e =
-            rw (le-leb 11 (length capture) long, le-leb (length capture) 63371 short, ← f, eq-eqb first 3 three, ← s, eq-eqb second (length capture - 11) e)
+            rw (le-leb 11 (length capture) long, le-leb (length capture) (11 + longestOf (modeOf capture)) short, ← f, eq-eqb first 3 three, ← s, eq-eqb second (length capture - 11) e)
 
--- ---- the other refusals
+pub formed-length : (capture : List ℕ) → wellFormed capture ≡ true → (11 ≤ length capture) × (length capture ≤ 11 + longestOf (modeOf capture))
+unfolding wellFormed
+formed-length capture e =
+    let all = parts-true (leb 11 (length capture) && leb (length capture) (11 + longestOf (modeOf capture))) _ e in
+    let ends = parts-true (leb 11 (length capture)) (leb (length capture) (11 + longestOf (modeOf capture))) (all .0) in
+    (leb-true 11 (length capture) (ends .0), leb-true (length capture) (11 + longestOf (modeOf capture)) (ends .1))
+
+-- ---- the table, line by line
+
+-- whether the lane is no whole multiblocks, as the table asks it
+abbrev uneven : List ℕ → Bool
+uneven capture = not (eqb (length (laneOf capture) % laneOctets (row (modeOf capture) .gap)) 0)
+
+-- and as code does: by the mode's numbers
+lane-rest : (capture : List ℕ) (mode : ℕ) (R : Row) (N : Numbers) → mode ≡ modeOf capture → R ≡ row mode → N ≡ numbersOf R
+    → length (laneOf capture) % laneOctets (row (modeOf capture) .gap) ≡ (length capture - 11) % N .octets
+lane-rest capture mode R N em er en = rw (en, er, em, lane-length capture)
 
 module _ (capture : List ℕ) where
-  pub refused-8 : wellFormed capture ≡ false → 8 ≡ refusalOf capture
+  pub refused-8 : not (wellFormed capture) ≡ true → 8 ≡ refusalOf capture
   unfolding refusalOf
-  refused-8 e = rw e
+  refused-8 e = given 8 _ _ e
 
-  module _ (fine : wellFormed capture ≡ true) where
-    pub refused-1 : 1 < modeOf capture → 1 ≡ refusalOf capture
+  module _ (fine : not (wellFormed capture) ≡ false) (mode : ℕ) (em : mode ≡ modeOf capture) where
+    pub refused-1 : not (known mode) ≡ true → 1 ≡ refusalOf capture
     unfolding refusalOf
-    refused-1 h = rw (fine, lt-ltb 1 (modeOf capture) h)
+    refused-1 e = given 1 _ _ (rw (← em) e) ∙ passed 8 _ _ fine
 
-    module _ (known : modeOf capture ≤ 1) where
-      pub refused-2 : extentOf capture < 1 → 2 ≡ refusalOf capture
+    module _ (is-known : not (known mode) ≡ false) where
+      past-mode : (lines : List Line) → refusalBy lines ≡ refusalBy (8 when not (wellFormed capture) ∷ 1 when not (known (modeOf capture)) ∷ lines)
+      past-mode lines = passed 1 _ lines (rw (← em) is-known) ∙ passed 8 _ _ fine
+
+      pub refused-2 : not (extentFits (extentOf capture)) ≡ true → 2 ≡ refusalOf capture
       unfolding refusalOf
-      refused-2 h = rw (fine, le-ltb 1 (modeOf capture) known, lt-leb 1 (extentOf capture) h)
+      refused-2 e = given 2 _ _ e ∙ past-mode _
 
-      module _ (some : 1 ≤ extentOf capture) where
-        pub refused-2-above : 256 < extentOf capture → 2 ≡ refusalOf capture
+      module _ (fits : not (extentFits (extentOf capture)) ≡ false) (R : Row) (er : R ≡ row mode) (N : Numbers) (en : N ≡ numbersOf R) where
+        pub refused-4 : ((length capture - 11) % N .octets ≡ 0 → ⊥) → 4 ≡ refusalOf capture
         unfolding refusalOf
-        refused-2-above h = rw (fine, le-ltb 1 (modeOf capture) known, le-leb 1 (extentOf capture) some, lt-leb (extentOf capture) 256 h)
+        refused-4 n =
+            given 4 (uneven capture) [] (rw (lane-rest capture mode R N em er en, ne-eqb ((length capture - 11) % N .octets) 0 n) refl) ∙ passed 2 _ _ fits ∙ past-mode _
 
-        module _ (most : extentOf capture ≤ 256) where
-          pub refused-4 : ((length capture - 11) % 264 ≡ 0 → ⊥) → 4 ≡ refusalOf capture
-          unfolding refusalOf
-          refused-4 n =
-              rw (fine, le-ltb 1 (modeOf capture) known, le-leb 1 (extentOf capture) some, le-leb (extentOf capture) 256 most, lane-rest capture, ne-eqb ((length capture - 11) % 264) 0 n)
-
-          pub not-refused : (length capture - 11) % 264 ≡ 0 → 0 ≡ refusalOf capture
-          unfolding refusalOf
-          not-refused e =
-              rw (fine, le-ltb 1 (modeOf capture) known, le-leb 1 (extentOf capture) some, le-leb (extentOf capture) 256 most, lane-rest capture, eq-eqb ((length capture - 11) % 264) 0 e)
+        pub not-refused : (length capture - 11) % N .octets ≡ 0 → 0 ≡ refusalOf capture
+        unfolding refusalOf
+        not-refused e =
+            none-left
+            ∙ passed 4 (uneven capture) [] (rw (lane-rest capture mode R N em er en, eq-eqb ((length capture - 11) % N .octets) 0 e) refl)
+            ∙ passed 2 _ _ fits
+            ∙ past-mode _
 
 -- ---- an accepted capture
 
-both-true : (a b : Bool) → a && b ≡ true → (a ≡ true) × (b ≡ true)
-both-true true b e = (refl, e)
-both-true false true e = (e, refl)
-both-true false false e = (e, e)
-
-pub formed-length : (capture : List ℕ) → wellFormed capture ≡ true → (11 ≤ length capture) × (length capture ≤ 63371)
-unfolding wellFormed
-formed-length capture e =
-    let all = both-true (leb 11 (length capture) && leb (length capture) 63371) (eqb (number (bitAt capture) 0 32) 3 && eqb (number (bitAt capture) 56 32) (length capture - 11)) e in
-    let ends = both-true (leb 11 (length capture)) (leb (length capture) 63371) (all .0) in
-    (leb-true 11 (length capture) (ends .0), leb-true (length capture) 63371 (ends .1))
-
 pub record Accepted (capture : List ℕ) : Type 0 where
   pub long : 11 ≤ length capture
-  pub short : length capture ≤ 63371
-  pub mode : modeOf capture ≤ 1
-  pub some : 1 ≤ extentOf capture
-  pub most : extentOf capture ≤ 256
-  pub whole : (length capture - 11) % 264 ≡ 0
-
-tests-of : (a b c d : Bool) → _≡_ {A = ℕ} (pick a (pick b 1 (pick c (pick d 0 4) 2)) 8) 0 → ((a ≡ true) × (b ≡ false)) × ((c ≡ true) × (d ≡ true))
-tests-of true false true true e = ((refl, refl), (refl, refl))
-tests-of true false true false e = absurd (omega arith)
-tests-of true false false d e = absurd (omega arith)
-tests-of true true c d e = absurd (omega arith)
-tests-of false b c d e = absurd (omega arith)
+  pub mode : known (modeOf capture) ≡ true
+  pub extent : extentFits (extentOf capture) ≡ true
+  pub whole : length (laneOf capture) % laneOctets (row (modeOf capture) .gap) ≡ 0
+  pub short : length (laneOf capture) ≤ laneOctets (row (modeOf capture) .gap) * row (modeOf capture) .most
 
 pub accepted : (capture : List ℕ) → refusalOf capture ≡ 0 → Accepted capture
 unfolding refusalOf
-accepted capture e =
-    let rest = length (laneOf capture) % laneOctets (row (modeOf capture) .gap) in
-    let tests = tests-of (wellFormed capture) (ltb 1 (modeOf capture)) (leb 1 (extentOf capture) && leb (extentOf capture) 256) (eqb rest 0) e in
-    let ends = formed-length capture (tests .0 .0) in
-    let extent = both-true (leb 1 (extentOf capture)) (leb (extentOf capture) 256) (tests .1 .0) in
+accepted capture z =
+    let formed = formed-length capture (not-false _ (not-given 8 (refusals capture) tt z)) in
+    let is-known = not-false _ (not-given 1 (refusals capture) tt z) in
     record {
-      long = ends .0;
-      short = ends .1;
-      mode = ltb-false 1 (modeOf capture) (tests .0 .1);
-      some = leb-true 1 (extentOf capture) (extent .0);
-      most = leb-true (extentOf capture) 256 (extent .1);
-      whole = sym (lane-rest capture) ∙ eqb-true rest 0 (tests .1 .1);
+      long = formed .0;
+      mode = is-known;
+      extent = not-false _ (not-given 2 (refusals capture) tt z);
+      whole = eqb-true _ 0 (not-false _ (not-given 4 (refusals capture) tt z));
+      short = omega (arith, lane-length capture, formed .1, longest-known (modeOf capture) is-known);
     }
+
+-- ---- more lines behind the table
+
+behind : (k : ℕ) (a b : List Line) → Given k a → Given k (a ++ b)
+behind k a b (first test lines e) = first test (lines ++ b) e
+behind k a b (later number test lines e g) = later number test (lines ++ b) e (behind k lines b g)
+
+module _ (capture : List ℕ) (more : List Line) where
+  pub still-refused : (refusalOf capture ≡ 0 → ⊥) → refusalOf capture ≡ refusalBy (refusals capture ++ more)
+  unfolding refusalOf
+  still-refused n =
+      let k = refusalBy (refusals capture) in
+      sym (whenever k (refusals capture ++ more) (behind k (refusals capture) more (only-when k (refusals capture) n refl)))
+
+  pub not-yet-refused : refusalOf capture ≡ 0 → refusalBy more ≡ refusalBy (refusals capture ++ more)
+  unfolding refusalOf
+  not-yet-refused z =
+      passed 4 (uneven capture) more (not-given 4 (refusals capture) tt z)
+      ∙ passed 2 _ _ (not-given 2 (refusals capture) tt z)
+      ∙ passed 1 _ _ (not-given 1 (refusals capture) tt z)
+      ∙ passed 8 _ _ (not-given 8 (refusals capture) tt z)
 
 -- ---- the answer of open
 
@@ -138,10 +172,10 @@ pub refused : (capture : List ℕ) (r : ℕ) → r ≡ refusalOf capture → (r 
 unfolding opened
 refused capture r h n = rw (← h, ne-eqb r 0 n)
 
-pub given : (capture : List ℕ) (mode e : ℕ) → refusalOf capture ≡ 0 → mode ≡ modeOf capture → e ≡ extentOf capture
+pub read-off : (capture : List ℕ) (mode e : ℕ) → refusalOf capture ≡ 0 → mode ≡ modeOf capture → e ≡ extentOf capture
     → _≡_ {A = Opened} (record { refusal = 0; mode = mode; e = e; start = 11; count = length capture - 11 }) (opened capture)
 unfolding opened
-given capture mode e h m x = rw (eq-eqb (refusalOf capture) 0 h, lane-length capture, m, x)
+read-off capture mode e h m x = rw (eq-eqb (refusalOf capture) 0 h, lane-length capture, m, x)
 
 -- and what may be read from it
 module _ (capture : List ℕ) where
@@ -165,7 +199,7 @@ module _ (capture : List ℕ) where
       accepted-read = accepted capture not-refused-read
 
       fields : o ≡ record { refusal = 0; mode = modeOf capture; e = extentOf capture; start = 11; count = length capture - 11 }
-      fields = e ∙ sym (given capture (modeOf capture) (extentOf capture) not-refused-read refl refl)
+      fields = e ∙ sym (read-off capture (modeOf capture) (extentOf capture) not-refused-read refl refl)
 
       pub mode-read : o .mode ≡ modeOf capture
       mode-read = ap (λ (x : Opened). x .mode) fields
@@ -180,8 +214,7 @@ module _ (capture : List ℕ) where
       unfolding laneOf
       lane-read = rw start-read (take-all (length capture - 11) (drop 11 capture) (omega (arith, length-drop 11 capture)))
 
-      pub lane-accepted : (o .mode ≤ 1) × (length (take (length capture - o .start) (drop (o .start) capture)) % 264 ≡ 0) × (length (take (length capture - o .start) (drop (o .start) capture)) ≤ 63360)
-      lane-accepted =
-          let ok = accepted-read in
-          let long = ap length lane-read ∙ lane-length capture in
-          (omega (arith, mode-read, ok .mode), ap (λ (x : ℕ). x % 264) long ∙ ok .whole, omega (arith, long, ok .short))
+      pub lane-accepted : (known (o .mode) ≡ true)
+          × (length (take (length capture - o .start) (drop (o .start) capture)) % laneOctets (row (o .mode) .gap) ≡ 0)
+          × (length (take (length capture - o .start) (drop (o .start) capture)) ≤ laneOctets (row (o .mode) .gap) * row (o .mode) .most)
+      lane-accepted = rw (lane-read, mode-read) (accepted-read .mode, accepted-read .whole, accepted-read .short)

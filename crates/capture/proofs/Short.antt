@@ -1,121 +1,167 @@
--- A buffer of 3,603 octets has room for the text of every accepted capture: a header line of at most 18, and at most 239 lines of at most 15. Document
--- 01, "Capture and listing". Assumes nothing.
+-- A buffer of as many octets as the longest text has room for the listing of every accepted capture. Document 01, "Capture and listing". Assumes
+-- nothing.
 use mathlib.Core.Path.{_≡_, refl, sym, ap, _∙_}
 use mathlib.Core.Logic.{_⊎_, inl, inr}
-use mathlib.Core.List.{List, [], _∷_, List·Memᴰ, List·Memᴰ·head, List·Memᴰ·tail}
-use Prim.Native.Nat.{ℕ, suc, _+_, _-_, _*_, _%_, _≤_, _<_}
+use mathlib.Core.Bool.{Bool, true, false, true≢false}
+use mathlib.Core.List.{List, [], _∷_, _++_}
+use Prim.Native.Nat.{ℕ, zero, suc, _+_, _-_, _*_, _%_, _^_, _≤_, _<_}
+use native.Mathlib.Nat.{not-suc-le-zero}
 use native.Mathlib.Omega.{arith}
-use native.Mathlib.Decide.{ℕ-discrete, decLe}
-use borrow.Author.Tests.{eq-eqb, ne-eqb, le-leb, lt-leb}
-use lib.ListN.{length, length-append}
+use native.Mathlib.Decide.{ℕ-discrete}
+use borrow.Author.Tests.{le-ltb, ltb-false}
+use lib.Dec.{ltb}
+use lib.ListN.{length, getD}
 use Rattle.bits.specs.Order.{bitAt}
-use Rattle.bits.proofs.Laid.{length-laid}
-use Rattle.frame.specs.Modes.{row}
-use Rattle.receiver.specs.Release.{Release, fresh}
-use Rattle.receiver.proofs.Verdicts.{Released, run-cases}
-use Rattle.text.specs.Text.{headLine, releaseLine}
-use Rattle.text.proofs.Decimal.{decimal-below, line-length, head-length, name-short}
-use Rattle.capture.specs.declared.Listed.{Listed}
-use Rattle.capture.specs.Form.{modeOf, extentOf, laneOf, refusalOf}
-use Rattle.capture.specs.Listing.{receivedIn, releasedFrom, lines, textOf, Done, done, laidOver, listed}
-use Rattle.capture.proofs.Refusals.{accepted}
-use Rattle.capture.proofs.Received.{received-is, released-is}
+use Rattle.bits.specs.Refusals.{_when_, refusalBy}
+use Rattle.bits.proofs.Refusals.{none-left, passed, not-given}
+use Rattle.frame.specs.declared.modes.Sync.{Sync}
+use Rattle.frame.specs.declared.modes.Sync.the-variants.{Crc12, Fec}
+use Rattle.frame.specs.declared.modes.Row.{Row}
+use Rattle.frame.specs.Modes.{code, repairs, row, mostOfAll}
+use Rattle.frame.proofs.Rows.{few, most-is, extent-within}
+use Rattle.judge.specs.declared.Verdict.{Verdict}
+use Rattle.judge.specs.Judge.{judged, releasedStatus}
+use Rattle.judge.proofs.Judging.{difference, judged-sound, judged-failed, status-trusted, status-untrusted}
+use Rattle.judge.proofs.Verdicts.{small}
+use Rattle.receiver.specs.Release.{Release, fresh, releaseAt, run}
+use Rattle.receiver.specs.Entry.{column}
+use Rattle.receiver.proofs.Afresh.{all-but-one}
+use Rattle.receiver.proofs.Buffers.{column-length}
+use Rattle.receiver.proofs.Numbered.{nth, waiting, verdict, verdict-is, status-is, numbered, column-at}
+use Rattle.receiver.proofs.Verdicts.{Released, release-cases}
+use Rattle.text.specs.declared.Listed.{Listed}
+use Rattle.text.specs.Writing.{Done, done}
+use Rattle.text.proofs.Refusals.{Counted, counted}
+use Rattle.text.proofs.Short.{Few, text-short}
+use Rattle.capture.specs.Form.{modeOf, extentOf, laneOf, refusals, refusalOf}
+use Rattle.capture.specs.Listing.{receivedIn, releasesOf, laneText, listingOf, longestText, listed}
+use Rattle.capture.proofs.Refusals.{accepted, still-refused, not-yet-refused}
+use Rattle.capture.proofs.Received.{received-few, released-are}
 
--- ---- a line has at most 15 octets
+pub longest-text : longestText ≡ 18 + 15 * (240 - 1)
+unfolding longestText
+longest-text = ap (λ (n : ℕ). 18 + 15 * (n - 1)) most-is
+
+-- ---- a burst is flipped back only where the code repairs
+
+not-repaired : (S : Sync) (octets : List ℕ) (parity : ℕ) → repairs S ≡ false → judged S octets parity .status ≡ 1 → ⊥
+not-repaired S octets parity r e = by (ℕ-discrete (difference S octets parity) 0)
+  where
+    by : Dec (difference S octets parity ≡ 0) → ⊥
+    by (yes z) = omega (arith, e, ap (λ (v : Verdict). v .status) (judged-sound S octets parity z))
+    by (no n) = omega (arith, e, ap (λ (v : Verdict). v .status) (judged-failed S octets parity r n))
+
+status-of : (v : Verdict) (trusted : Bool) → v .status ≤ 2 → releasedStatus v trusted % 4 ≡ v .status
+status-of v true h = omega (arith, status-trusted v)
+status-of v false h = omega (arith, status-untrusted v)
+
+repaired : (S : Sync) (octets : List ℕ) (parity : ℕ) (v : Verdict) (trusted : Bool) → v ≡ judged S octets parity → releasedStatus v trusted % 4 ≡ 1 → repairs S ≡ true
+repaired S octets parity v trusted e one = by (repairs S) refl
+  where
+    is-one : judged S octets parity .status ≡ 1
+    is-one = ap (λ (x : Verdict). x .status) (sym e) ∙ sym (status-of v trusted (small S octets parity v e)) ∙ one
+
+    by : (b : Bool) → repairs S ≡ b → repairs S ≡ true
+    by true q = q
+    by false q = absurd (not-repaired S octets parity q is-one)
+
+-- ---- the digits of a release's numbers
 
 status-below : (n : ℕ) → (n ≤ 2) ⊎ ((4 ≤ n) × (n ≤ 6)) → n < 10
 status-below n (inl h) = omega arith
 status-below n (inr h) = omega (arith, h .1)
 
-small-burst : (r : Release) → Released r → (r .place < 10000) × (r .pattern < 1000)
-small-burst r k = by (ℕ-discrete (r .status % 4) 1)
+burst-below : (S : Sync) (place pattern : ℕ) → repairs S ≡ true → place < code S .positions → pattern < 2 ^ code S .limit → (place < 10000) × (pattern < 1000)
+burst-below Crc12 place pattern y h l = absurd (true≢false (sym y))
+burst-below Fec place pattern y h l = (omega arith, omega arith)
+
+few-digits : (S : Sync) (r : Release) → Released (code S) r → (r .status % 4 ≡ 1 → repairs S ≡ true) → Few (r .status) (r .place) (r .pattern)
+few-digits S r k y = by (ℕ-discrete (r .status % 4) 1)
   where
-    by : Dec (r .status % 4 ≡ 1) → (r .place < 10000) × (r .pattern < 1000)
-    by (yes e) = let b = k .cases .burst e in (omega (arith, b .0), omega (arith, b .2))
-    by (no n) = let b = k .cases .none n in (omega (arith, b .0), omega (arith, b .1))
+    by : Dec (r .status % 4 ≡ 1) → Few (r .status) (r .place) (r .pattern)
+    by (yes e) =
+        let b = k .cases .burst e in
+        let small = burst-below S (r .place) (r .pattern) (y e) (b .0) (b .2) in
+        record { status-one = status-below (r .status) (k .status); place-four = small .0; pattern-three = small .1 }
+    by (no n) =
+        let b = k .cases .none n in
+        record { status-one = status-below (r .status) (k .status); place-four = omega (arith, b .0); pattern-three = omega (arith, b .1) }
 
-line-short : (k : ℕ) (r : Release) → k < 1000 → Released r → length (releaseLine k (r .status) (r .place) (r .pattern)) ≤ 15
-line-short k r h c =
-    let b = small-burst r c in
-    omega (
-      arith,
-      line-length k (r .status) (r .place) (r .pattern),
-      decimal-below 2 k h,
-      decimal-below 0 (r .status) (status-below (r .status) (c .status)),
-      decimal-below 3 (r .place) (b .0),
-      decimal-below 2 (r .pattern) (b .1),
-    )
+-- release i of a lane, of which there are one fewer than multiblocks
+few-at : (R : Row) (lane : ℕ → ℕ) (n i : ℕ) → i < n - 1 → let r = nth (run R lane fresh n .out) i in Few (r .status) (r .place) (r .pattern)
+few-at R lane zero i h = absurd (not-suc-le-zero h)
+few-at R lane (suc n) i h =
+    let s = waiting R lane i in
+    let judged-so = repaired (R .sync) _ _ (verdict R lane i) (s .trusted) (verdict-is R lane i) in
+    rw (numbered R lane n i (omega arith))
+    (few-digits (R .sync) (releaseAt R lane (suc i) s) (release-cases R lane (suc i) s) (λ e. judged-so (ap (λ (k : ℕ). k % 4) (sym (status-is R lane i)) ∙ e)))
 
-lines-short : (k : ℕ) (out : List Release) → k + length out ≤ 1000 → ((r : Release) → List·Memᴰ r out → Released r) → length (lines k out) ≤ 15 * length out
-unfolding lines
-lines-short k [] h c = omega arith
-lines-short k (r ∷ out) h c =
-    omega (
-      arith,
-      length-append (releaseLine k (r .status) (r .place) (r .pattern)) (lines (suc k) out),
-      line-short k r (omega arith) (c r (List·Memᴰ·head refl)),
-      lines-short (suc k) out (omega arith) (λ x i. c x (List·Memᴰ·tail i)),
-    )
+few-released : (R : Row) (lane : List ℕ) (i : ℕ) → i < length (releasesOf R lane) → let r = nth (releasesOf R lane) i in Few (r .status) (r .place) (r .pattern)
+unfolding releasesOf
+few-released R lane i h = few-at R (bitAt lane) (receivedIn R lane) i (omega (arith, h, all-but-one R (bitAt lane) (receivedIn R lane)))
 
--- ---- all of it, with a header line of at most 18
+-- ---- all of it
 
-pub text-short : (capture : List ℕ) → refusalOf capture ≡ 0 → length (textOf capture) ≤ 3603
-unfolding textOf releasedFrom
-text-short capture z =
+module _ (R : Row) (lane : List ℕ) where
+  abbrev out : List Release
+  out = releasesOf R lane
+
+  abbrev statuses : List ℕ
+  statuses = column (λ (r : Release). r .status) out
+
+  abbrev places : List ℕ
+  places = column (λ (r : Release). r .place) out
+
+  abbrev patterns : List ℕ
+  patterns = column (λ (r : Release). r .pattern) out
+
+  few-listed : (i : ℕ) → i < length statuses → Few (getD statuses i 0) (getD places i 0) (getD patterns i 0)
+  few-listed i h =
+      let l : i < length out = omega (arith, column-length (λ (r : Release). r .status) out) in
+      rw (column-at (λ (r : Release). r .status) out i l, column-at (λ (r : Release). r .place) out i l, column-at (λ (r : Release). r .pattern) out i l)
+      (few-released R lane i l)
+
+pub listing-short : (capture : List ℕ) → refusalOf capture ≡ 0 → length (listingOf capture) ≤ longestText
+unfolding listingOf laneText longestText
+listing-short capture z =
     let ok = accepted capture z in
-    let n = receivedIn capture in
-    let m = length (releasedFrom capture) in
-    let E = extentOf capture in
-    let en = received-is capture in
-    let em = released-is capture in
-    let few : n ≤ 240 = omega (arith, en, ok .short) in
+    let R = row (modeOf capture) in
+    let lane = laneOf capture in
+    let n = receivedIn R lane in
+    let within : n ≤ mostOfAll = omega (arith, received-few (modeOf capture) lane (ok .short), few (modeOf capture)) in
+    let number : length (statuses R lane) ≡ n - 1 = column-length (λ (r : Release). r .status) (releasesOf R lane) ∙ released-are R lane in
     omega (
       arith,
-      length-append (headLine (modeOf capture) E n m) (lines 0 (releasedFrom capture)),
-      head-length (modeOf capture) E n m,
-      name-short (modeOf capture),
-      decimal-below 2 E (omega (arith, ok .most)),
-      decimal-below 2 n (omega (arith, few)),
-      decimal-below 2 m (omega (arith, few, em)),
-      lines-short 0 (releasedFrom capture) (omega (arith, few, em)) (run-cases (row (modeOf capture)) (bitAt (laneOf capture)) fresh n),
-      few,
-      em,
+      text-short (statuses R lane) (places R lane) (patterns R lane) R (extentOf capture) n (omega (arith, extent-within (extentOf capture) (ok .extent) .1))
+          (omega (arith, within, most-is)) (omega (arith, within, most-is, number)) (few-listed R lane),
+      number,
+      within,
     )
 
--- so that no capture is refused for want of room
-pub room-enough : (capture text : List ℕ) → 3603 ≤ length text → listed capture text .answer .refusal ≡ refusalOf capture
-unfolding listed laidOver
+-- ---- so that no capture is refused for want of room; what is counted stands in the text, which keeps its length
+
+listed-counted : (capture text : List ℕ) → Counted (refusalBy (refusals capture ++ 7 when ltb (length text) (length (listingOf capture)) ∷ [])) text (listed capture text)
+unfolding listed
+listed-counted capture text =
+    counted _ (listingOf capture) text
+    (λ z. ltb-false (length text) (length (listingOf capture)) (not-given 7 (refusals capture ++ 7 when ltb (length text) (length (listingOf capture)) ∷ []) tt z))
+
+room-enough : (capture text : List ℕ) → longestText ≤ length text → refusalBy (refusals capture ++ 7 when ltb (length text) (length (listingOf capture)) ∷ []) ≡ refusalOf capture
 room-enough capture text room = by (ℕ-discrete (refusalOf capture) 0)
   where
-    by : Dec (refusalOf capture ≡ 0) → listed capture text .answer .refusal ≡ refusalOf capture
-    by (no n) = rw (ne-eqb (refusalOf capture) 0 n)
-    by (yes e) = rw (eq-eqb (refusalOf capture) 0 e, le-leb (length (textOf capture)) (length text) (omega (arith, text-short capture e, room))) (sym e)
-
--- ---- what is counted stands in the text, which keeps its length
-
-record Counted (d : Done) (text : List ℕ) : Type 0 where
-  within : d .answer .count ≤ length text
-  long : length (d .text) ≡ length text
-
-counted : (capture text : List ℕ) → Counted (listed capture text) text
-unfolding listed laidOver
-counted capture text = by (ℕ-discrete (refusalOf capture) 0) (decLe (length (textOf capture)) (length text))
-  where
-    none : (refusal : ℕ) → Counted (done (record { refusal = refusal; count = 0 }) text) text
-    none refusal = record { within = omega arith; long = refl }
-
-    by : Dec (refusalOf capture ≡ 0) → Dec (length (textOf capture) ≤ length text) → Counted (listed capture text) text
-    by (no n) d = rw (ne-eqb (refusalOf capture) 0 n) (none (refusalOf capture))
-    by (yes e) (yes h) =
-        rw (eq-eqb (refusalOf capture) 0 e, le-leb (length (textOf capture)) (length text) h) (record { within = h; long = length-laid (textOf capture) text h })
-    by (yes e) (no n) = rw (eq-eqb (refusalOf capture) 0 e, lt-leb (length (textOf capture)) (length text) (omega arith)) (none 7)
+    by : Dec (refusalOf capture ≡ 0) → refusalBy (refusals capture ++ 7 when ltb (length text) (length (listingOf capture)) ∷ []) ≡ refusalOf capture
+    by (no n) = sym (still-refused capture _ n)
+    by (yes z) =
+        sym (not-yet-refused capture _ z)
+        ∙ sym (none-left ∙ passed 7 _ [] (le-ltb (length text) (length (listingOf capture)) (omega (arith, listing-short capture z, room))))
+        ∙ sym z
 
 module _ (capture text text′ : List ℕ) (r : Listed) (e : done r text′ ≡ listed capture text) where
-  pub refused-as : 3603 ≤ length text → r .refusal ≡ refusalOf capture
-  refused-as room = ap (λ (x : Done). x .answer .refusal) e ∙ room-enough capture text room
+  pub refused-as : longestText ≤ length text → r .refusal ≡ refusalOf capture
+  refused-as room = ap (λ (x : Done). x .answer .refusal) e ∙ listed-counted capture text .number ∙ room-enough capture text room
 
   pub count-within : r .count ≤ length text
-  count-within = omega (arith, ap (λ (x : Done). x .answer .count) e, counted capture text .within)
+  count-within = omega (arith, ap (λ (x : Done). x .answer .count) e, listed-counted capture text .within)
 
   pub count-within-after : r .count ≤ length text′
-  count-within-after = omega (arith, count-within, ap (λ (x : Done). length (x .text)) e, counted capture text .long)
+  count-within-after = omega (arith, count-within, ap (λ (x : Done). length (x .text)) e, listed-counted capture text .long)

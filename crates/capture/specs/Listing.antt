@@ -1,12 +1,12 @@
 -- What is listed of a capture: document 01, "Capture and listing". Assumes nothing.
 use mathlib.Core.List.{List, [], _∷_, _++_}
-use Prim.Native.Nat.{ℕ, _/_}
+use Prim.Native.Nat.{ℕ, _+_, _-_, _*_, _/_}
 use lib.Dec.{ltb}
 use lib.ListN.{length}
 use Rattle.bits.specs.Order.{bitAt}
 use Rattle.bits.specs.Refusals.{_when_, refusalBy}
 use Rattle.frame.specs.declared.modes.Row.{Row}
-use Rattle.frame.specs.Modes.{row}
+use Rattle.frame.specs.Modes.{row, mostOfAll}
 use Rattle.frame.specs.Lane.{laneOctets}
 use Rattle.receiver.specs.Release.{Release, fresh, run}
 use Rattle.receiver.specs.Entry.{column}
@@ -31,6 +31,10 @@ laneText R E lane =
 -- the listing of a capture
 unfoldable pub listingOf : List ℕ → List ℕ
 listingOf capture = laneText (row (modeOf capture)) (extentOf capture) (laneOf capture)
+
+-- no listing is longer: a header line of at most 18 octets, and one of at most 15 for each multiblock of a call but the last, which still waits
+unfoldable pub longestText : ℕ
+longestText = 18 + 15 * (mostOfAll - 1)
 
 -- refused as the capture is, or by 7 where there is no room, with the text as it was; or the whole listing
 unfoldable pub listed : List ℕ → List ℕ → Done

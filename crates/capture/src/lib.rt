@@ -1,12 +1,20 @@
 // The capture's form and the listing's text: document 01, "Capture and listing".
 ghost use mathlib.Core.Path.{_≡_};
+ghost use Prim.Native.Nat.{_+_};
+ghost use Rattle.frame.specs.Modes.{longestLane};
 ghost use Rattle.capture.specs.Form.{opened};
 ghost use Rattle.text.specs.Writing.{done};
-ghost use Rattle.capture.specs.Listing.{listed};
+ghost use Rattle.capture.specs.Listing.{listed, longestText};
+use frame::modes;
 use text::Listed;
 
 mod form;
 mod lane;
+
+// For buffers of a fixed size: the octets of the longest capture, and of the longest listing.
+pub const LONGEST: usize = 11 + modes::LONGEST_LANE;
+
+pub const TEXT: usize = 18 + 15 * (modes::MOST - 1);
 
 // A refusal, or 0 with the mode, E, and where the lane octets stand.
 pub struct Opened {
@@ -54,3 +62,11 @@ pub fn listing(capture: &[u8], text: &mut [u8]) -> Listed
     let start = opened.start;
     lane::list(text, opened.mode, opened.e, &capture[start..])
 }
+
+// The constants are the numbers of the definitions.
+fn tied()
+    ensures { λ _. do
+      longest ← ⟦LONGEST⟧ .entry
+      text ← ⟦TEXT⟧ .entry
+      ⌜ (longest ≡ 11 + longestLane) × (text ≡ longestText) ⌝ }
+{}

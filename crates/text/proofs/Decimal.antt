@@ -1,17 +1,20 @@
 -- Decimal numbers: their last digit, how many digits they have, and how long the lines made of them are. Document 01, "Capture and
 -- listing". Assumes nothing.
-use mathlib.Core.Path.{_≡_, refl, sym, ap, ap₂, _∙_}
+use mathlib.Core.Path.{_≡_, sym, ap, _∙_}
 use mathlib.Core.Bool.{Bool, true, false}
 use mathlib.Core.List.{List, [], _∷_, _++_}
 use Prim.Native.Nat.{ℕ, zero, suc, _+_, _*_, _/_, _%_, _^_, _≤_, _<_}
 use native.Mathlib.Nat.{pow-suc}
 use native.Mathlib.Omega.{arith}
-use borrow.Author.Tests.{lt-ltb, le-ltb, ne-eqb}
-use lib.Dec.{ltb, eqb}
+use borrow.Author.Tests.{lt-ltb, le-ltb}
+use lib.Dec.{ltb, lit≤}
 use lib.ListN.{length, length-append}
 use Rattle.bits.specs.Choice.{pick}
-use Rattle.text.specs.Text.{digitsOf, decimal, nameOf, headLine, releaseLine}
-use Rattle.text.specs.Writing.{field}
+use Rattle.frame.specs.declared.modes.Sync.{Sync}
+use Rattle.frame.specs.declared.modes.Sync.the-variants.{Crc12, Fec}
+use Rattle.frame.specs.declared.modes.Row.{Row}
+use Rattle.text.specs.Text.{digitsOf, decimal, syncName, nameOf, headLine, releaseLine}
+use Rattle.text.specs.inner.Wrote.{field}
 
 -- ---- digits
 
@@ -89,13 +92,13 @@ line-length k status place pattern =
       field-length pattern 10,
     )
 
-pub head-length : (mode E received released : ℕ)
-    → length (headLine mode E received released) ≡ length (nameOf mode) + length (decimal E) + length (decimal received) + length (decimal released) + 3
+pub head-length : (R : Row) (E received released : ℕ)
+    → length (headLine R E received released) ≡ length (nameOf R) + length (decimal E) + length (decimal received) + length (decimal released) + 3
 unfolding headLine
-head-length mode E received released =
+head-length R E received released =
     omega (
       arith,
-      length-append (nameOf mode) (field E 32 ++ (field received 32 ++ field released 10)),
+      length-append (nameOf R) (field E 32 ++ (field received 32 ++ field released 10)),
       length-append (field E 32) (field received 32 ++ field released 10),
       length-append (field received 32) (field released 10),
       field-length E 32,
@@ -105,13 +108,14 @@ head-length mode E received released =
 
 -- ---- names
 
-pub fec-name : (mode : ℕ) → mode ≡ 1 → nameOf mode ≡ nameOf 1
-fec-name mode e = ap nameOf e
-
-pub crc12-name : (mode : ℕ) → (mode ≡ 1 → ⊥) → nameOf mode ≡ nameOf 0
+pub name-is : (R : Row) (S : Sync) → R .sync ≡ S → nameOf R ≡ syncName S
 unfolding nameOf
-crc12-name mode n = simp (ne-eqb mode 1 n)
+name-is R S e = ap syncName e
 
-pub name-short : (mode : ℕ) → length (nameOf mode) ≤ 6
+sync-short : (S : Sync) → length (syncName S) ≤ 6
+sync-short Crc12 = lit≤ tt
+sync-short Fec = lit≤ tt
+
+pub name-short : (R : Row) → length (nameOf R) ≤ 6
 unfolding nameOf
-name-short mode = shorter (eqb mode 1) (102 ∷ 101 ∷ 99 ∷ 32 ∷ []) (99 ∷ 114 ∷ 99 ∷ 49 ∷ 50 ∷ 32 ∷ []) 6 (omega arith) (omega arith)
+name-short R = sync-short (R .sync)

@@ -3,3 +3,4 @@ pub mod Decimal
 pub mod Wrote
 pub mod Releases
 pub mod Refusals
+pub mod Short

@@ -1,66 +1,98 @@
--- When a listing is refused before its room is looked at, and its answer: document 01, "Numbers of refusal". Assumes nothing.
-use mathlib.Core.Path.{_≡_, refl, sym, _∙_}
-use mathlib.Core.Bool.{Bool, true, false}
-use mathlib.Core.List.{List}
-use Prim.Native.Nat.{ℕ, _≤_, _<_}
+-- What a call that writes a listing answers, line by line of its table: document 01, "Numbers of refusal". Assumes nothing.
+use mathlib.Core.Path.{_≡_, refl, sym, ap, _∙_}
+use mathlib.Core.Bool.{true, false, not, _&&_}
+use mathlib.Core.List.{List, [], _∷_}
+use Prim.Native.Nat.{ℕ, _+_, _≤_, _<_}
 use native.Mathlib.Omega.{arith}
-use borrow.Author.Tests.{le-ltb, lt-ltb, eq-eqb, ne-eqb, ltb-false, eqb-true}
+use borrow.Author.Tests.{not-false, le-ltb, lt-ltb, eq-eqb, ne-eqb, eqb-true}
 use lib.Dec.{ltb, eqb}
 use lib.ListN.{length}
-use Rattle.bits.specs.Choice.{pick}
 use Rattle.bits.specs.Order.{laid}
-use Rattle.text.specs.Writing.{textOf, Done, done, laidOver, refusalFor, written}
-use Rattle.text.proofs.Releases.{with-room, no-room}
+use Rattle.bits.specs.Refusals.{Line, _when_, refusalBy}
+use Rattle.bits.proofs.Choice.{pick-both, both-true, parts-true}
+use Rattle.bits.proofs.Laid.{length-laid}
+use Rattle.bits.proofs.Refusals.{given, passed, none-left}
+use Rattle.frame.specs.declared.modes.Row.{Row}
+use Rattle.frame.specs.Modes.{mostOfAll}
+use Rattle.text.specs.Text.{textOf}
+use Rattle.text.specs.Writing.{Done, done, answerOf, roomOver, refusals, written}
+use Rattle.text.specs.inner.Wrote.{Wrote}
+use Rattle.text.proofs.Wrote.{wrote-laid}
 
-module _ (statuses places patterns : ℕ) where
-  pub other-places : (places ≡ statuses → ⊥) → 4 ≡ refusalFor statuses places patterns
-  unfolding refusalFor
-  other-places n = rw (ne-eqb places statuses n)
+-- ---- by the number of refusal
 
-  module _ (e : places ≡ statuses) where
-    pub other-patterns : (patterns ≡ statuses → ⊥) → 4 ≡ refusalFor statuses places patterns
-    unfolding refusalFor
-    other-patterns n = rw (eq-eqb places statuses e, ne-eqb patterns statuses n)
+pub refused : (refusal : ℕ) (new text : List ℕ) → (refusal ≡ 0 → ⊥) → done (record { refusal = refusal; count = 0 }) text ≡ answerOf refusal new text
+unfolding answerOf
+refused refusal new text n = rw (ne-eqb refusal 0 n)
 
-    module _ (f : patterns ≡ statuses) where
-      pub too-many : 240 < statuses → 5 ≡ refusalFor statuses places patterns
-      unfolding refusalFor
-      too-many h = rw (eq-eqb places statuses e, eq-eqb patterns statuses f, lt-ltb 240 statuses h)
+accepted : (new text : List ℕ) → done (record { refusal = 0; count = length new }) (laid new text) ≡ answerOf 0 new text
+unfolding answerOf
+accepted new text = refl
 
-      pub not-refused : statuses ≤ 240 → 0 ≡ refusalFor statuses places patterns
-      unfolding refusalFor
-      not-refused h = rw (eq-eqb places statuses e, eq-eqb patterns statuses f, le-ltb 240 statuses h)
+-- a call answers by the number that its table gives
+pub answered : {d : Done} (refusal : ℕ) (lines : List Line) (new text : List ℕ) → d ≡ answerOf refusal new text → refusal ≡ refusalBy lines → d ≡ answerOf (refusalBy lines) new text
+answered refusal lines new text e f = e ∙ ap (λ (k : ℕ). answerOf k new text) f
 
-tests-of : (a b c : Bool) → _≡_ {A = ℕ} (pick a (pick b (pick c 5 0) 4) 4) 0 → (a ≡ true) × (b ≡ true) × (c ≡ false)
-tests-of true true false e = (refl, refl, refl)
-tests-of true true true e = absurd (omega arith)
-tests-of true false c e = absurd (omega arith)
-tests-of false b c e = absurd (omega arith)
+-- what an answer says: the number itself, and a count of octets that stand in the text, which keeps its length
+pub record Counted (refusal : ℕ) (text : List ℕ) (d : Done) : Type 0 where
+  pub number : d .answer .refusal ≡ refusal
+  pub within : d .answer .count ≤ length text
+  pub long : length (d .text) ≡ length text
 
-pub accepted : (statuses places patterns : ℕ) → refusalFor statuses places patterns ≡ 0 → (statuses ≤ 240) × (places ≡ statuses) × (patterns ≡ statuses)
-unfolding refusalFor
-accepted statuses places patterns e =
-    let tests = tests-of (eqb places statuses) (eqb patterns statuses) (ltb 240 statuses) e in
-    (ltb-false 240 statuses (tests .2), eqb-true places statuses (tests .0), eqb-true patterns statuses (tests .1))
+pub counted : (refusal : ℕ) (new text : List ℕ) → (refusal ≡ 0 → length new ≤ length text) → Counted refusal text (answerOf refusal new text)
+unfolding answerOf
+counted refusal new text room =
+    pick-both (Counted refusal text) (eqb refusal 0) _ _
+    (λ e. let z = eqb-true refusal 0 e in record { number = sym z; within = room z; long = length-laid new text (room z) })
+    (λ _. record { number = refl; within = omega arith; long = refl })
 
--- ---- the answer
+-- ---- by the room
 
-module _ (mode E received : ℕ) (s p q text : List ℕ) where
-  pub refused : (r : ℕ) → r ≡ refusalFor (length s) (length p) (length q) → (r ≡ 0 → ⊥) → done (record { refusal = r; count = 0 }) text ≡ written mode E received s p q text
+pub no-room : (new text : List ℕ) → length text < length new → done (record { refusal = 7; count = 0 }) text ≡ roomOver new text
+no-room new text h =
+    answered 7 (7 when ltb (length text) (length new) ∷ []) new text (refused 7 new text (λ e. absurd (omega arith)))
+    (given 7 (ltb (length text) (length new)) [] (lt-ltb (length text) (length new) h))
+
+pub with-room : (new text : List ℕ) → length new ≤ length text → done (record { refusal = 0; count = length new }) (laid new text) ≡ roomOver new text
+with-room new text h =
+    answered 0 (7 when ltb (length text) (length new) ∷ []) new text (accepted new text)
+    (none-left ∙ passed 7 (ltb (length text) (length new)) [] (le-ltb (length text) (length new) h))
+
+pub all-written : {new old text : List ℕ} {count : ℕ} → Wrote new 0 old count text → done (record { refusal = 0; count = count }) text ≡ roomOver new old
+all-written {new} {old} {text} {count} w =
+    let fits : 0 + length new ≤ length old = w .fits in
+    let t = wrote-laid w in
+    rw (t .0, t .1) (with-room new old (omega arith))
+
+-- ---- by the lists
+
+pub lengths-alike : (s p q : ℕ) → not (eqb p s && eqb q s) ≡ false → (p ≡ s) × (q ≡ s)
+lengths-alike s p q e =
+    let both = parts-true (eqb p s) (eqb q s) (not-false (eqb p s && eqb q s) e) in
+    (eqb-true p s (both .0), eqb-true q s (both .1))
+
+passed-alike : (s p q : ℕ) (lines : List Line) → p ≡ s → q ≡ s → refusalBy lines ≡ refusalBy (4 when not (eqb p s && eqb q s) ∷ lines)
+passed-alike s p q lines e f = passed 4 (not (eqb p s && eqb q s)) lines (ap not (both-true (eqb p s) (eqb q s) (eq-eqb p s e) (eq-eqb q s f)))
+
+module _ (R : Row) (E received : ℕ) (s p q text : List ℕ) where
+  pub unlike : not (eqb (length p) (length s) && eqb (length q) (length s)) ≡ true → done (record { refusal = 4; count = 0 }) text ≡ written R E received s p q text
   unfolding written
-  refused r e n = rw (← e, ne-eqb r 0 n)
+  unlike e =
+      let new = textOf R E received s p q in
+      answered 4 (refusals (length s) (length p) (length q) new text) new text (refused 4 new text (λ z. absurd (omega arith))) (given 4 _ _ e)
 
-  pub answered : refusalFor (length s) (length p) (length q) ≡ 0 → laidOver (textOf mode E received s p q) text ≡ written mode E received s p q text
-  unfolding written
-  answered z = rw (eq-eqb (refusalFor (length s) (length p) (length q)) 0 z)
+  module _ (e : length p ≡ length s) (f : length q ≡ length s) where
+    pub too-many : mostOfAll < length s → done (record { refusal = 5; count = 0 }) text ≡ written R E received s p q text
+    unfolding written
+    too-many h =
+        let new = textOf R E received s p q in
+        answered 5 (refusals (length s) (length p) (length q) new text) new text (refused 5 new text (λ z. absurd (omega arith)))
+        (given 5 _ _ (lt-ltb mostOfAll (length s) h) ∙ passed-alike (length s) (length p) (length q) _ e f)
 
-  module _ (few : length s ≤ 240) (e : length p ≡ length s) (f : length q ≡ length s) where
-    taken : laidOver (textOf mode E received s p q) text ≡ written mode E received s p q text
-    taken = answered (sym (not-refused (length s) (length p) (length q) e f few))
-
-    pub whole : length (textOf mode E received s p q) ≤ length text
-        → done (record { refusal = 0; count = length (textOf mode E received s p q) }) (laid (textOf mode E received s p q) text) ≡ written mode E received s p q text
-    whole h = with-room (textOf mode E received s p q) text h ∙ taken
-
-    pub none : length text < length (textOf mode E received s p q) → done (record { refusal = 7; count = 0 }) text ≡ written mode E received s p q text
-    none h = no-room (textOf mode E received s p q) text h ∙ taken
+    -- lists that are alike and few: all that is asked is the room
+    pub taken : length s ≤ mostOfAll → roomOver (textOf R E received s p q) text ≡ written R E received s p q text
+    unfolding written
+    taken h =
+        let new = textOf R E received s p q in
+        answered _ (refusals (length s) (length p) (length q) new text) new text refl
+        (passed 5 _ _ (le-ltb mostOfAll (length s) h) ∙ passed-alike (length s) (length p) (length q) _ e f)

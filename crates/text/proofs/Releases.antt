@@ -1,16 +1,14 @@
--- The lines of a listing one by one, and the whole of its text: document 01, "Capture and listing". Assumes nothing.
+-- The lines of a listing one by one: document 01, "Capture and listing". Assumes nothing.
 use mathlib.Core.Path.{_≡_, refl, sym, ap, _∙_}
-use mathlib.Core.List.{List, [], _∷_, _++_}
+use mathlib.Core.List.{List, [], _++_}
 use Prim.Native.Nat.{ℕ, zero, suc, _+_, _-_, _≤_, _<_}
 use native.Mathlib.Nat.{add-zero}
 use native.Mathlib.Numerals.{add-one}
 use native.Mathlib.Omega.{arith}
-use borrow.Author.Tests.{le-leb, lt-leb}
 use lib.ListN.{length, getD, length-append}
-use Rattle.bits.specs.Order.{laid}
-use Rattle.text.specs.Text.{headLine, releaseLine}
-use Rattle.text.specs.Writing.{Wrote, linesOf, textOf, Done, done, laidOver}
-use Rattle.text.proofs.Wrote.{wrote-none, wrote-then, wrote-is, wrote-laid, room-then}
+use Rattle.text.specs.Text.{releaseLine, linesOf}
+use Rattle.text.specs.inner.Wrote.{Wrote}
+use Rattle.text.proofs.Wrote.{wrote-none, wrote-then, wrote-is, room-then}
 
 -- ---- one line more
 
@@ -56,23 +54,3 @@ module _ (k : ℕ) (s p q : List ℕ) where
       → at + length (releaseLine k (getD s k 0) (getD p k 0) (getD q k 0)) ≤ length mid
   room-next n h room w =
       room-then (releaseLine k (getD s k 0) (getD p k 0) (getD q k 0)) (omega (arith, lines-within (k + 1) n s p q (omega arith), ap length (lines-next k s p q))) w
-
--- ---- the whole text, where there is room for it
-
-pub text-is : (mode E received : ℕ) (s p q : List ℕ) → textOf mode E received s p q ≡ headLine mode E received (length s) ++ linesOf (length s) s p q
-unfolding textOf
-text-is mode E received s p q = refl
-
-pub no-room : (new text : List ℕ) → length text < length new → done (record { refusal = 7; count = 0 }) text ≡ laidOver new text
-unfolding laidOver
-no-room new text h = rw (lt-leb (length new) (length text) h)
-
-pub with-room : (new text : List ℕ) → length new ≤ length text → done (record { refusal = 0; count = length new }) (laid new text) ≡ laidOver new text
-unfolding laidOver
-with-room new text h = rw (le-leb (length new) (length text) h)
-
-pub all-written : {new old text : List ℕ} {count : ℕ} → Wrote new 0 old count text → done (record { refusal = 0; count = count }) text ≡ laidOver new old
-all-written {new} {old} {text} {count} w =
-    let fits : 0 + length new ≤ length old = w .fits in
-    let t = wrote-laid w in
-    rw (t .0, t .1) (with-room new old (omega arith))

@@ -1,13 +1,13 @@
 -- Lists written one after the other: what was written, what is written next, and the room for it. Assumes nothing.
 use mathlib.Core.Path.{_≡_, refl, sym, ap, ap₂, _∙_, subst}
-use mathlib.Core.List.{List, [], _∷_, _++_}
-use Prim.Native.Nat.{ℕ, _+_, _≤_, _<_}
+use mathlib.Core.List.{List, [], _++_}
+use Prim.Native.Nat.{ℕ, _+_, _≤_}
 use native.Mathlib.Omega.{arith}
-use lib.ListN.{length, set, length-append}
+use lib.ListN.{length, length-append}
 use lib.Seq.{sets}
 use Rattle.bits.specs.Order.{laid, laidAt}
 use Rattle.bits.proofs.Writing.{stored, length-laidAt, laidAt-none, laidAt-then, laidAt-start}
-use Rattle.text.specs.Writing.{Wrote}
+use Rattle.text.specs.inner.Wrote.{Wrote}
 
 -- octets stored one by one
 pub wrote-stored : (new old : List ℕ) (at : ℕ) → at + length new ≤ length old → Wrote new at old (at + length new) (sets old at new)

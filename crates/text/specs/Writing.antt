@@ -30,7 +30,7 @@ answerOf refusal new text =
 
 -- all that is asked where the lists are alike and few: whether there is room
 abbrev pub roomOver : List ℕ → List ℕ → Done
-roomOver new text = answerOf (pick (ltb (length text) (length new)) 7 0) new text
+roomOver new text = answerOf (refusalBy (7 when ltb (length text) (length new) ∷ [])) new text
 
 -- the table: 4 where places or patterns are not as many as statuses, 5 where these are more than any call releases, 7 where there is no room
 abbrev pub refusals : ℕ → ℕ → ℕ → List ℕ → List ℕ → List Line

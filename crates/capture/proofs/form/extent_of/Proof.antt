@@ -15,31 +15,24 @@ two-octets : (capture : List ℕ) (a b : ℕ) → a ≡ getD capture 5 0 → b �
 unfolding extentOf
 two-octets capture a b first second h l = omega (arith, first, second, number-next capture 5 1 l, number-octet capture 5 h)
 
--- src/form.rt:37:5
 octet-at-requires : tie.Need-octet-at-requires
 octet-at-requires c κs = search needs
 
--- src/form.rt:37:5
 cast-result : tie.Need-cast-result
 cast-result c = search needs
 
--- src/form.rt:37:5
 mul-result : tie.Need-mul-result
 mul-result c = search needs
 
--- src/form.rt:37:47
 octet-at-requires-2 : tie.Need-octet-at-requires-2
 octet-at-requires-2 c κs = search needs
 
--- src/form.rt:37:47
 cast-result-2 : tie.Need-cast-result-2
 cast-result-2 c = search needs
 
--- src/form.rt:37:5
 add-result : tie.Need-add-result
 add-result c = search needs
 
--- src/form.rt:34:1
 returns : tie.Need-returns
 returns c =
     let capture = c .before .before .before .args .capture .now in

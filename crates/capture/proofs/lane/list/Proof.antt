@@ -1,85 +1,74 @@
 -- `capture::lane::list` meets its contract.
 -- Assumes nothing.
 use borrow.Author.Needs.{needs}
-use Prim.Native.Nat.{ℕ, suc, _+_, _-_, _*_, _/_, _%_, _^_, _≤_, _<_}
-use mathlib.Core.Path.{_≡_, refl, sym, ap, _∙_, subst}
-use mathlib.Core.List.{List, [], _∷_, _++_}
-use mathlib.Core.Bool.{Bool, true, false}
-use mathlib.Core.Logic.{⊎-elim}
-use native.Mathlib.Numerals.{add-one}
+use Prim.Native.Nat.{ℕ}
+use mathlib.Core.Path.{sym, ap, _∙_}
+use native.Mathlib.Nat.{div-le-self}
 use native.Mathlib.Omega.{arith}
-use borrow.Author.Count.{below-more}
-use borrow.Author.Tests.{le-ltb, lt-ltb, ltb-true, ltb-false, eq-eqb, ne-eqb}
-use lib.ListN.{length, getD, set, take, drop, length-set, length-append, length-take, length-drop}
-use lib.Seq.{take-suc, take-suc-set, take-all}
-use denote.Ref.{now}
-use lib.ListN.{length-replicate}
+use lib.ListN.{length, length-replicate}
 use lib.Seq.{length-take-le}
+use Rattle.frame.specs.declared.modes.Numbers.{Numbers}
+use Rattle.frame.proofs.Rows.{most-is, longest-is, lane-within}
+use Rattle.frame.proofs.Sizes.{octets-some}
 use Rattle.capture.proofs.Received.{lane-listed}
 use Rattle.capture.proofs.lane.list.Statement.{statement}
 use Rattle.capture.proofs.lane.list.Tie as tie
-use Rattle.capture.proofs.lane.list.Reads as reads
-use Rattle.capture.proofs.lane.list.Lts as lts
-use Rattle.capture.proofs.lane.receive.Reads as receive-reads
-use Rattle.text.proofs.write.Reads as write-reads
 
--- src/lane.rt:45:37
 slice-aggregate-receive : tie.Need-slice-aggregate-receive
-slice-aggregate-receive c = sym (length-replicate {A = ℕ} 240 0)
+slice-aggregate-receive c = sym (length-replicate {A = ℕ} _ 0)
 
--- src/lane.rt:45:52
 slice-aggregate-receive-2 : tie.Need-slice-aggregate-receive-2
-slice-aggregate-receive-2 c = sym (length-replicate {A = ℕ} 240 0)
+slice-aggregate-receive-2 c = sym (length-replicate {A = ℕ} _ 0)
 
--- src/lane.rt:45:65
 slice-aggregate-receive-3 : tie.Need-slice-aggregate-receive-3
-slice-aggregate-receive-3 c = sym (length-replicate {A = ℕ} 240 0)
+slice-aggregate-receive-3 c = sym (length-replicate {A = ℕ} _ 0)
 
--- src/lane.rt:45:9
 receive-requires : tie.Need-receive-requires
-receive-requires c κs = search needs
+receive-requires c κs = (c .before .before .before .before .before .pre, (length-replicate {A = ℕ} _ 0 ∙ sym most-is, length-replicate {A = ℕ} _ 0 ∙ sym most-is, length-replicate {A = ℕ} _ 0 ∙ sym most-is))
 
--- src/lane.rt:50:9
+row-of-requires : tie.Need-row-of-requires
+row-of-requires c κs = search needs
+
+numbers-of-requires : tie.Need-numbers-of-requires
+numbers-of-requires c κs = search needs
+
+div-write : tie.Need-div-write
+div-write c = omega (arith, ap (λ (N : Numbers). N .octets) (c .before .before .numbers-of .ensures), octets-some (c .before .before .before .row-of .result .gap))
+
 cast-write : tie.Need-cast-write
-cast-write c = search needs
+cast-write c =
+    let a = c .before .before .before .before .before .before .before .before .before .before .before .before .before .args in
+    omega (arith, div-le-self (length (a .lane .now)) (c .before .before .numbers-of .result .octets), c .before .before .before .before .before .before .before .before .before .before .before .before .before .pre .2, lane-within (a .mode), longest-is)
 
--- src/lane.rt:51:9
 array-share-prefix-statuses : tie.Need-array-share-prefix-statuses
-array-share-prefix-statuses c = search needs
+array-share-prefix-statuses c = omega (arith, c .before .before .before .before .before .before .before .receive .ensures .few, most-is)
 
--- src/lane.rt:51:9
 slice-aggregate-write : tie.Need-slice-aggregate-write
-slice-aggregate-write c = sym (length-take-le _ _ (omega (arith, c .before .before .before .before .before .receive .ensures .few, c .before .before .before .before .before .receive .kept)))
+slice-aggregate-write c = sym (length-take-le _ _ (omega (arith, c .before .before .before .before .before .before .before .before .receive .ensures .few, c .before .before .before .before .before .before .before .before .receive .kept, most-is)))
 
--- src/lane.rt:52:9
 array-share-prefix-places : tie.Need-array-share-prefix-places
-array-share-prefix-places c = search needs
+array-share-prefix-places c = omega (arith, c .before .before .before .before .before .before .before .before .receive .ensures .few, most-is)
 
--- src/lane.rt:52:9
 slice-aggregate-write-2 : tie.Need-slice-aggregate-write-2
-slice-aggregate-write-2 c = sym (length-take-le _ _ (omega (arith, c .before .before .before .before .before .before .receive .ensures .few, c .before .before .before .before .before .before .receive .kept)))
+slice-aggregate-write-2 c = sym (length-take-le _ _ (omega (arith, c .before .before .before .before .before .before .before .before .before .receive .ensures .few, c .before .before .before .before .before .before .before .before .before .receive .kept, most-is)))
 
--- src/lane.rt:53:9
 array-share-prefix-patterns : tie.Need-array-share-prefix-patterns
-array-share-prefix-patterns c = search needs
+array-share-prefix-patterns c = omega (arith, c .before .before .before .before .before .before .before .before .before .receive .ensures .few, most-is)
 
--- src/lane.rt:53:9
 slice-aggregate-write-3 : tie.Need-slice-aggregate-write-3
-slice-aggregate-write-3 c = sym (length-take-le _ _ (omega (arith, c .before .before .before .before .before .before .before .receive .ensures .few, c .before .before .before .before .before .before .before .receive .kept)))
+slice-aggregate-write-3 c = sym (length-take-le _ _ (omega (arith, c .before .before .before .before .before .before .before .before .before .before .receive .ensures .few, c .before .before .before .before .before .before .before .before .before .before .receive .kept, most-is)))
 
--- src/lane.rt:46:9
 write-requires : tie.Need-write-requires
 write-requires c κs = tt
 
--- src/lane.rt:38:1
 same-length : tie.Need-same-length
 same-length c = c .before .before .write .kept .0
 
--- src/lane.rt:38:1
 returns : tie.Need-returns
 returns c =
-    let a = c .before .before .before .before .before .before .before .before .before .before .before .before .before .before .before .before .args in
-    lane-listed (a .mode) (a .e) _ (c .before .before .before .before .before .before .before .before .before .before .receive .result) (a .lane .now) _ _ _ (a .text .now) _ (c .before .before .write .result) refl (c .before .before .before .before .before .before .before .before .before .before .receive .ensures) (c .before .before .write .ensures)
+    let a = c .before .before .before .before .before .before .before .before .before .before .before .before .before .before .before .before .before .before .before .args in
+    c .before .before .write .ensures
+    ∙ lane-listed (a .mode) (a .e) (c .before .before .before .before .before .before .before .before .before .before .before .before .before .receive .result) (a .lane .now) _ _ _ (a .text .now) _ _ (c .before .before .before .before .before .before .before .before .before .row-of .ensures) (c .before .before .before .before .before .before .before .before .numbers-of .ensures) (c .before .before .before .before .before .before .before .before .before .before .before .before .before .receive .ensures)
 
 pub list-spec : {M : Type 1} → statement M
 list-spec =
@@ -89,6 +78,9 @@ list-spec =
     slice-aggregate-receive-2
     slice-aggregate-receive-3
     receive-requires
+    row-of-requires
+    numbers-of-requires
+    div-write
     cast-write
     array-share-prefix-statuses
     slice-aggregate-write

@@ -1,22 +1,13 @@
 -- `text::fields::+put_decimal` meets its contract.
 -- Assumes nothing.
 use borrow.Author.Needs.{needs}
-use Prim.Native.Nat.{ℕ, suc, _+_, _-_, _*_, _/_, _%_, _^_, _≤_, _<_}
-use mathlib.Core.Path.{_≡_, refl, sym, ap, _∙_, subst}
-use mathlib.Core.List.{List, [], _∷_, _++_}
-use mathlib.Core.Bool.{Bool, true, false}
-use mathlib.Core.Logic.{⊎-elim}
-use native.Mathlib.Numerals.{add-one}
+use Prim.Native.Nat.{ℕ, _/_, _<_}
+use mathlib.Core.Path.{sym, ap, _∙_}
+use mathlib.Core.List.{[], _∷_, _++_}
 use native.Mathlib.Omega.{arith}
-use borrow.Author.Count.{below-more}
-use borrow.Author.Tests.{le-ltb, lt-ltb, ltb-true, ltb-false, eq-eqb, ne-eqb}
-use lib.ListN.{length, getD, set, take, drop, length-set, length-append, length-take, length-drop}
-use lib.Seq.{take-suc, take-suc-set, take-all}
-use denote.Ref.{now}
 use Rattle.text.specs.Text.{decimal}
 use Rattle.text.proofs.Decimal.{one-digit, last-digit, width-one, width-more}
 use Rattle.text.proofs.Wrote.{wrote-is, wrote-then}
-use Prim.Native.Nat.{ℕ, _<_}
 use borrow.Fn.Kinds.{In}
 use borrow.Fn.PlainCycle.{Measures, is, falls, and}
 use Rattle.text.proofs.fields.put_decimal.Reads as put-decimal
@@ -38,7 +29,6 @@ abbrev put-decimal-below : ℕ → In 1 put-decimal-kinds.ps
 put-decimal-below t =
     and 1 put-decimal-kinds.ps (falls 1 put-decimal-kinds.ps _<_ μ-put-decimal t) put-decimal.Pre
 
--- src/fields.rt:39:36
 put-decimal-digit-requires : (t : ℕ) → put-decimal-lts.Need-digit-requires (
   digit-reads.Asked,
   digit-reads.Learnt,
@@ -49,7 +39,6 @@ put-decimal-digit-requires : (t : ℕ) → put-decimal-lts.Need-digit-requires (
 ) (put-decimal-at t) put-decimal.Post
 put-decimal-digit-requires t c κs = search needs
 
--- src/fields.rt:39:9
 put-decimal-put-octet-requires : (t : ℕ) → put-decimal-lts.Need-put-octet-requires (
   digit-reads.Asked,
   digit-reads.Learnt,
@@ -60,7 +49,6 @@ put-decimal-put-octet-requires : (t : ℕ) → put-decimal-lts.Need-put-octet-re
 ) (put-decimal-at t) put-decimal.Post
 put-decimal-put-octet-requires t c κs = omega (arith, width-one (c .before .before .before .before .args .n) (omega arith), c .before .before .before .before .pre .1)
 
--- src/fields.rt:39:9
 put-decimal-same-length : (t : ℕ) → put-decimal-lts.Need-same-length (
   digit-reads.Asked,
   digit-reads.Learnt,
@@ -71,7 +59,6 @@ put-decimal-same-length : (t : ℕ) → put-decimal-lts.Need-same-length (
 ) (put-decimal-at t) put-decimal.Post
 put-decimal-same-length t c = search needs
 
--- src/fields.rt:39:9
 put-decimal-returns : (t : ℕ) → put-decimal-lts.Need-returns (
   digit-reads.Asked,
   digit-reads.Learnt,
@@ -84,7 +71,6 @@ put-decimal-returns t c =
     let n = c .before .before .before .before .before .before .before .args .n in
     wrote-is (ap (λ (x : ℕ). x ∷ []) (c .before .before .before .digit .ensures) ∙ sym (one-digit n (c .before .before .before .before .before .if1 .taken))) (c .before .before .put-octet .ensures)
 
--- src/fields.rt:41:9
 put-decimal-put-decimal-requires : (t : ℕ) → put-decimal-lts.Need-put-decimal-requires (
   digit-reads.Asked,
   digit-reads.Learnt,
@@ -97,7 +83,6 @@ put-decimal-put-decimal-requires t c κs =
     let n = c .before .before .before .args .n in
     (omega arith, omega (arith, c .before .before .before .pre .1, width-more n (omega arith) (omega arith)))
 
--- src/fields.rt:42:27
 put-decimal-digit-requires-2 : (t : ℕ) → put-decimal-lts.Need-digit-requires-2 (
   digit-reads.Asked,
   digit-reads.Learnt,
@@ -108,7 +93,6 @@ put-decimal-digit-requires-2 : (t : ℕ) → put-decimal-lts.Need-digit-requires
 ) (put-decimal-at t) put-decimal.Post
 put-decimal-digit-requires-2 t c κs = search needs
 
--- src/fields.rt:42:5
 put-decimal-put-octet-requires-2 : (t : ℕ) → put-decimal-lts.Need-put-octet-requires-2 (
   digit-reads.Asked,
   digit-reads.Learnt,
@@ -122,7 +106,6 @@ put-decimal-put-octet-requires-2 t c κs =
     let w = c .before .before .before .before .put-decimal .ensures in
     omega (arith, width-more n (c .before .before .before .before .before .before .if1 .left) (omega arith), c .before .before .before .before .before .before .before .before .pre .1, w .place, c .before .before .before .before .put-decimal .kept .0)
 
--- src/fields.rt:34:1
 put-decimal-same-length-2 : (t : ℕ) → put-decimal-lts.Need-same-length-2 (
   digit-reads.Asked,
   digit-reads.Learnt,
@@ -133,7 +116,6 @@ put-decimal-same-length-2 : (t : ℕ) → put-decimal-lts.Need-same-length-2 (
 ) (put-decimal-at t) put-decimal.Post
 put-decimal-same-length-2 t c = search needs
 
--- src/fields.rt:34:1
 put-decimal-returns-2 : (t : ℕ) → put-decimal-lts.Need-returns-2 (
   digit-reads.Asked,
   digit-reads.Learnt,

@@ -1,20 +1,9 @@
 -- `text::fields::+width` meets its contract.
 -- Assumes nothing.
 use borrow.Author.Needs.{needs}
-use Prim.Native.Nat.{ℕ, suc, _+_, _-_, _*_, _/_, _%_, _^_, _≤_, _<_}
-use mathlib.Core.Path.{_≡_, refl, sym, ap, _∙_, subst}
-use mathlib.Core.List.{List, [], _∷_, _++_}
-use mathlib.Core.Bool.{Bool, true, false}
-use mathlib.Core.Logic.{⊎-elim}
-use native.Mathlib.Numerals.{add-one}
-use native.Mathlib.Omega.{arith}
-use borrow.Author.Count.{below-more}
-use borrow.Author.Tests.{le-ltb, lt-ltb, ltb-true, ltb-false, eq-eqb, ne-eqb}
-use lib.ListN.{length, getD, set, take, drop, length-set, length-append, length-take, length-drop}
-use lib.Seq.{take-suc, take-suc-set, take-all}
-use denote.Ref.{now}
-use Rattle.text.proofs.Decimal.{width-one, width-more, decimal-length}
 use Prim.Native.Nat.{ℕ, _<_}
+use native.Mathlib.Omega.{arith}
+use Rattle.text.proofs.Decimal.{width-one, width-more, decimal-length}
 use borrow.Fn.Kinds.{In}
 use borrow.Fn.PlainCycle.{Measures, is, falls, and}
 use Rattle.text.proofs.fields.width.Reads as width
@@ -32,22 +21,18 @@ width-at t = and 0 width-kinds.ps (is 0 width-kinds.ps μ-width t) width.Pre
 abbrev width-below : ℕ → In 0 width-kinds.ps
 width-below t = and 0 width-kinds.ps (falls 0 width-kinds.ps _<_ μ-width t) width.Pre
 
--- src/fields.rt:21:9
 width-returns :
     (t : ℕ) → width-lts.Need-returns (width-below t, width.Post) (width-at t) width.Post
 width-returns t c = (width-one _ (c .if1 .taken), omega arith)
 
--- src/fields.rt:23:5
 width-width-requires :
     (t : ℕ) → width-lts.Need-width-requires (width-below t, width.Post) (width-at t) width.Post
 width-width-requires t c κs = search needs
 
--- src/fields.rt:23:5
 width-add-result :
     (t : ℕ) → width-lts.Need-add-result (width-below t, width.Post) (width-at t) width.Post
 width-add-result t c = search needs
 
--- src/fields.rt:17:1
 width-returns-2 :
     (t : ℕ) → width-lts.Need-returns-2 (width-below t, width.Post) (width-at t) width.Post
 width-returns-2 t c =

@@ -1,58 +1,35 @@
 -- `text::fields::line_width` meets its contract.
 -- Assumes nothing.
 use borrow.Author.Needs.{needs}
-use Prim.Native.Nat.{ℕ, suc, _+_, _-_, _*_, _/_, _%_, _^_, _≤_, _<_}
-use mathlib.Core.Path.{_≡_, refl, sym, ap, _∙_, subst}
-use mathlib.Core.List.{List, [], _∷_, _++_}
-use mathlib.Core.Bool.{Bool, true, false}
-use mathlib.Core.Logic.{⊎-elim}
-use native.Mathlib.Numerals.{add-one}
 use native.Mathlib.Omega.{arith}
-use borrow.Author.Count.{below-more}
-use borrow.Author.Tests.{le-ltb, lt-ltb, ltb-true, ltb-false, eq-eqb, ne-eqb}
-use lib.ListN.{length, getD, set, take, drop, length-set, length-append, length-take, length-drop}
-use lib.Seq.{take-suc, take-suc-set, take-all}
-use denote.Ref.{now}
 use Rattle.text.proofs.Decimal.{line-length}
 use Rattle.text.proofs.fields.line_width.Statement.{statement}
 use Rattle.text.proofs.fields.line_width.Tie as tie
-use Rattle.text.proofs.fields.line_width.Reads as reads
-use Rattle.text.proofs.fields.line_width.Lts as lts
-use Rattle.text.proofs.fields.width.Reads as width-reads
 
--- src/fields.rt:133:5
 width-requires : tie.Need-width-requires
 width-requires c κs = search needs
 
--- src/fields.rt:133:16
 width-requires-2 : tie.Need-width-requires-2
 width-requires-2 c κs = search needs
 
--- src/fields.rt:133:5
 add-result : tie.Need-add-result
 add-result c = search needs
 
--- src/fields.rt:133:32
 width-requires-3 : tie.Need-width-requires-3
 width-requires-3 c κs = search needs
 
--- src/fields.rt:133:5
 add-result-2 : tie.Need-add-result-2
 add-result-2 c = search needs
 
--- src/fields.rt:133:47
 width-requires-4 : tie.Need-width-requires-4
 width-requires-4 c κs = search needs
 
--- src/fields.rt:133:5
 add-result-3 : tie.Need-add-result-3
 add-result-3 c = search needs
 
--- src/fields.rt:133:5
 add-result-4 : tie.Need-add-result-4
 add-result-4 c = search needs
 
--- src/fields.rt:130:1
 returns : tie.Need-returns
 returns c =
     let a = c .before .before .before .before .args in

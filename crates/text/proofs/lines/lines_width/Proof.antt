@@ -1,25 +1,15 @@
 -- `text::lines::lines_width` meets its contract.
 -- Assumes nothing.
 use borrow.Author.Needs.{needs}
-use Prim.Native.Nat.{ℕ, suc, _+_, _-_, _*_, _/_, _%_, _^_, _≤_, _<_}
-use mathlib.Core.Path.{_≡_, refl, sym, ap, _∙_, subst}
-use mathlib.Core.List.{List, [], _∷_, _++_}
-use mathlib.Core.Bool.{Bool, true, false}
-use mathlib.Core.Logic.{⊎-elim}
-use native.Mathlib.Numerals.{add-one}
+use Prim.Native.Nat.{ℕ, _-_, _*_, _≤_}
+use mathlib.Core.Path.{_≡_, sym, ap, _∙_}
 use native.Mathlib.Omega.{arith}
-use borrow.Author.Count.{below-more}
-use borrow.Author.Tests.{le-ltb, lt-ltb, ltb-true, ltb-false, eq-eqb, ne-eqb}
-use lib.ListN.{length, getD, set, take, drop, length-set, length-append, length-take, length-drop}
-use lib.Seq.{take-suc, take-suc-set, take-all}
-use denote.Ref.{now}
-use Rattle.text.specs.Writing.{linesOf}
+use lib.ListN.{length}
+use Rattle.text.specs.Text.{linesOf}
+use Rattle.frame.proofs.Rows.{most-is}
 use Rattle.text.proofs.Releases.{no-lines, total-next}
 use Rattle.text.proofs.lines.lines_width.Statement.{statement}
 use Rattle.text.proofs.lines.lines_width.Tie as tie
-use Rattle.text.proofs.lines.lines_width.Reads as reads
-use Rattle.text.proofs.lines.lines_width.Lts as lts
-use Rattle.text.proofs.fields.line_width.Reads as line-width-reads
 
 abbrev Inv-loop : tie.InvT-loop
 Inv-loop released statuses places patterns total₀ k₀ total k = (k ≤ released) × (total ≡ length (linesOf k statuses places patterns)) × (total ≤ 84 * k)
@@ -27,53 +17,41 @@ Inv-loop released statuses places patterns total₀ k₀ total k = (k ≤ releas
 abbrev μ-loop : tie.MeasureT-loop
 μ-loop released statuses places patterns total₀ k₀ total k = released - k
 
--- src/lines.rt:15:5
 loop-holds : tie.Need-loop-holds Inv-loop μ-loop
 loop-holds c =
     let a = c .before .before .before .args in
     (search needs, sym (ap length (no-lines (a .statuses .now) (a .places .now) (a .patterns .now))), search needs)
 
--- src/lines.rt:17:13
 cast-line-width : tie.Need-cast-line-width Inv-loop μ-loop
-cast-line-width c = search needs
+cast-line-width c = omega (arith, most-is)
 
--- src/lines.rt:18:13
 shared-slice-read-line-width : tie.Need-shared-slice-read-line-width Inv-loop μ-loop
 shared-slice-read-line-width c = search needs
 
--- src/lines.rt:19:13
 mul-line-width : tie.Need-mul-line-width Inv-loop μ-loop
 mul-line-width c = search needs
 
--- src/lines.rt:19:13
 shared-slice-read-line-width-2 : tie.Need-shared-slice-read-line-width-2 Inv-loop μ-loop
 shared-slice-read-line-width-2 c = search needs
 
--- src/lines.rt:20:13
 mul-line-width-2 : tie.Need-mul-line-width-2 Inv-loop μ-loop
 mul-line-width-2 c = search needs
 
--- src/lines.rt:20:13
 shared-slice-read-line-width-3 : tie.Need-shared-slice-read-line-width-3 Inv-loop μ-loop
 shared-slice-read-line-width-3 c = search needs
 
--- src/lines.rt:16:18
 line-width-requires : tie.Need-line-width-requires Inv-loop μ-loop
 line-width-requires c κs = search needs
 
--- src/lines.rt:16:9
 add-total : tie.Need-add-total Inv-loop μ-loop
-add-total c = search needs
+add-total c = omega (arith, most-is)
 
--- src/lines.rt:22:9
 add-k : tie.Need-add-k Inv-loop μ-loop
 add-k c = search needs
 
--- src/lines.rt:15:5
 loop-less : tie.Need-loop-less Inv-loop μ-loop
 loop-less c = search needs
 
--- src/lines.rt:15:5
 loop-again : tie.Need-loop-again Inv-loop μ-loop
 loop-again c =
     let a = c .before .before .before .before .before .before .before .before .before .args in
@@ -81,7 +59,6 @@ loop-again c =
     let more = total-next (l .k) (a .statuses .now) (a .places .now) (a .patterns .now) in
     (omega arith, omega (arith, more, l .inv .1, c .line-width .ensures .0), omega (arith, l .inv .2, c .line-width .ensures .1))
 
--- src/lines.rt:9:1
 returns : tie.Need-returns Inv-loop μ-loop
 returns c =
     let a = c .before .before .before .before .before .args in
