@@ -10,5 +10,4 @@ pub mod Laid
 pub mod Octets
 pub mod WordLists
 pub mod Writing
-pub mod Parts
 pub mod Refusals

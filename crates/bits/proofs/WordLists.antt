@@ -37,9 +37,6 @@ module _ (words : List ℕ) where
   unfolding octetsIn
   bit-octetsIn k h = bit-octetsOf (wordBit words) wordBit-lt (8 * length words) k (omega arith)
 
-  pub number-octetsIn : (i : ℕ) → i < length words → getD words i 0 < 2 ^ 64 → number (bitAt (octetsIn words)) (64 * i) 64 ≡ getD words i 0
-  number-octetsIn i inside h = number-ext (bitAt (octetsIn words)) (wordBit words) (64 * i) (64 * i) 64 (λ j q. bit-octetsIn (64 * i + j) (omega arith)) ∙ number-word i h
-
   pub bitsOf-octetsIn : bitsOf (octetsIn words) ≡ listFrom (wordBit words) 0 (64 * length words)
   unfolding bitsOf
   bitsOf-octetsIn =

@@ -51,9 +51,6 @@ xor-swap a b c d =
     ∙ ap (bitXor a) (sym (xor-assoc b c d) ∙ ap (λ (x : ℕ). bitXor x d) (xor-comm b c) ∙ xor-assoc c b d)
     ∙ sym (xor-assoc a c (bitXor b d))
 
-pub xor-cancel : (a b : ℕ) → bitXor a (bitXor a b) ≡ b
-xor-cancel a b = sym (xor-assoc a a b) ∙ ap (λ (x : ℕ). bitXor x b) (xor-self a)
-
 pub xor-eq : (a b : ℕ) → bitXor a b ≡ 0 → a ≡ b
 xor-eq a b e =
     sym (xor-zero-r a) ∙ ap (bitXor a) (sym (xor-self b)) ∙ sym (xor-assoc a b b) ∙ ap (λ (x : ℕ). bitXor x b) e

@@ -1,5 +1,4 @@
 -- What bits, octets and numbers have to do with each other.
 pub mod Choice
 pub mod Order
-pub mod Parts
 pub mod Refusals

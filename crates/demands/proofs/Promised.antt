@@ -66,18 +66,18 @@ module _ {mode E : ℕ} (t : Transfer mode E) {limit clear : ℕ} (damaged : Dam
       ∙ sound-octet (row mode) heard (t .octets) within i k j next m h (ap (λ (x : ℕ). sound x k) (sym (status-at t i next)) ∙ e)
 
 pub fec-delivers : FecDelivers
-fec-delivers mode E mends t damaged i j after-first l m = delivered t damaged (limit-some (row mode .sync)) (omega arith) (omega arith) mends i j (omega arith) l m
+fec-delivers mode E mends t damaged i j after-first l m = delivered t damaged (omega (arith, limit-some (row mode .sync))) (omega arith) (omega arith) mends i j (omega arith) l m
 
 pub crc-tells-hits : CrcTellsHits
-crc-tells-hits mode E notices t damaged i q l h e = tells t damaged (limit-some (row mode .sync)) (omega arith) (omega arith) notices i q l h e
+crc-tells-hits mode E notices t damaged i q l h e = tells t damaged (omega (arith, limit-some (row mode .sync))) (omega arith) (omega arith) notices i q l h e
 
 pub crc-untouched-sound : CrcUntouchedSound
 crc-untouched-sound mode E notices t damaged zero after-first l u = absurd (omega arith)
 crc-untouched-sound mode E notices t damaged (suc i) after-first l u =
-    untouched-sound t damaged (limit-some (row mode .sync)) (omega arith) (omega arith) i l u (omega arith) (omega arith)
+    untouched-sound t damaged (omega (arith, limit-some (row mode .sync))) (omega arith) (omega arith) i l u (omega arith) (omega arith)
 
 all-sound-true : (repaired : Bool) → SoundTrue repaired
-all-sound-true repaired mode E _ t damaged i j l h e = sound-true t damaged (limit-some (row mode .sync)) (omega arith) (omega arith) i j l h e (omega arith)
+all-sound-true repaired mode E _ t damaged i j l h e = sound-true t damaged (omega (arith, limit-some (row mode .sync))) (omega arith) (omega arith) i j l h e (omega arith)
 
 pub fec-sound-true : FecSoundTrue
 fec-sound-true = all-sound-true true

@@ -20,12 +20,6 @@ use Rattle.frame.specs.SyncWord.{key, position}
 
 -- ---- of every sync word
 
--- the end mark stands at position 22
-pub mark-position : (S : Sync) → position (layout S) mark ≡ 22
-unfolding position key
-mark-position Crc12 = refl
-mark-position Fec = refl
-
 pub proper : (S : Sync) → Proper (code S)
 proper Crc12 = crc12-proper
 proper Fec = fec-proper

@@ -166,10 +166,6 @@ mend-none octets p long octet-lt =
     ∙ octetsOf-bits octets 256 (λ j h. octet-lt j) (omega arith)
     ∙ take-all 256 octets (omega arith)
 
-pub mended-length : (v : Verdict) (octets : List ℕ) → length (mended v octets) ≡ 256
-unfolding mended
-mended-length v octets = length-octetsOf (λ k. bitXor (bitAt octets k) (flips (v .place) (v .pattern) k)) 256
-
 -- ---- on the way: what is left to flip
 
 -- the octets out, with the pattern w from p on left to be flipped, where the pattern w₀ from p₀ on was to be flipped in octets

@@ -1,4 +1,4 @@
-// Multiblocks of 66-bit blocks written to a lane and read from it: clauses 7.1.2, 7.1.3 and 7.2.2. A multiblock is 33 words of the lane, and
+// Multiblocks of blocks without gaps written to a lane and read from it: clauses 7.1.2, 7.1.3 and 7.2.2. A multiblock is 33 words of the lane, and
 // block i begins 2 * i bits into word i: shifts and masks lay and gather its header and its 64 data bits across octet edges.
 ghost use mathlib.Core.Path.{_≡_};
 ghost use Prim.Native.Nat.{_+_, _-_, _*_, _/_, _%_, _^_, _<_};

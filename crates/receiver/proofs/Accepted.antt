@@ -9,6 +9,7 @@ use Rattle.bits.specs.Order.{bitAt}
 use Rattle.bits.proofs.Numbers.{bitAt-lt, number-lt}
 use Rattle.frame.specs.declared.modes.Sync.{Sync}
 use Rattle.frame.specs.declared.modes.Row.{Row}
+use Rattle.frame.specs.Modes.{flaggedBound}
 use Rattle.frame.specs.Lane.{syncBit, invalidBit}
 use Rattle.frame.proofs.Lane.{syncBit-lt}
 use Rattle.frame.proofs.SyncWord.{flagged-fits}
@@ -18,27 +19,27 @@ use Rattle.receiver.specs.Refusal.{allZero, asFresh, stateFits}
 use Rattle.receiver.proofs.Refusals.{waiting-fits, idle-fits}
 
 module _ (R : Row) (lane : ℕ → ℕ) where
-  waiting-accepted : (m history : ℕ) (trusted : Bool) → history < 2 ^ 58 → stateFits (R .sync) (waitingAt R lane m history trusted) ≡ true
+  waiting-accepted : (m history : ℕ) (trusted : Bool) → history < 2 ^ 58 → stateFits (flaggedBound (R .sync)) (waitingAt R lane m history trusted) ≡ true
   unfolding waitingAt
   waiting-accepted m history trusted h =
-      sym (waiting-fits (R .sync) _ h (flagged-fits (R .sync) (syncBit (R .gap) lane m) (invalidBit (R .gap) lane m) (syncBit-lt (R .gap) lane m)) refl)
+      sym (waiting-fits (flaggedBound (R .sync)) _ h (flagged-fits (R .sync) (syncBit (R .gap) lane m) (invalidBit (R .gap) lane m) (syncBit-lt (R .gap) lane m)) refl)
 
-  either : (w : Bool) (a b : Step) → stateFits (R .sync) (a .state) ≡ true → stateFits (R .sync) (b .state) ≡ true → stateFits (R .sync) (pick w a b .state) ≡ true
+  either : (w : Bool) (a b : Step) → stateFits (flaggedBound (R .sync)) (a .state) ≡ true → stateFits (flaggedBound (R .sync)) (b .state) ≡ true → stateFits (flaggedBound (R .sync)) (pick w a b .state) ≡ true
   either true a b h k = h
   either false a b h k = k
 
-  pub step-accepted : (m : ℕ) (s : Receiver) → stateFits (R .sync) (step R lane m s .state) ≡ true
+  pub step-accepted : (m : ℕ) (s : Receiver) → stateFits (flaggedBound (R .sync)) (step R lane m s .state) ≡ true
   unfolding step
   step-accepted m s =
       either (s .waiting) _ _ (waiting-accepted m _ _ (number-lt (bitAt _) (bitAt-lt _) 1990 58)) (waiting-accepted m 0 false (pow-pos 58))
 
-  pub accepted-again : (s : Receiver) (n : ℕ) → stateFits (R .sync) s ≡ true → stateFits (R .sync) (run R lane s n .state) ≡ true
+  pub accepted-again : (s : Receiver) (n : ℕ) → stateFits (flaggedBound (R .sync)) s ≡ true → stateFits (flaggedBound (R .sync)) (run R lane s n .state) ≡ true
   unfolding run
   accepted-again s zero h = h
   accepted-again s (suc n) h = step-accepted n (run R lane s n .state)
 
-pub fresh-accepted : (S : Sync) → stateFits S fresh ≡ true
+pub fresh-accepted : (S : Sync) → stateFits (flaggedBound S) fresh ≡ true
 unfolding asFresh allZero
 fresh-accepted S =
     let some = flagged-fits S (λ t. 0) (λ t. 0) (λ t. omega arith) in
-    sym (idle-fits S fresh (pow-pos 58) (omega (arith, some)) refl)
+    sym (idle-fits (flaggedBound S) fresh (pow-pos 58) (omega (arith, some)) refl)

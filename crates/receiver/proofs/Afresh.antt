@@ -8,7 +8,7 @@ use lib.ListN.{length}
 use Rattle.bits.specs.Order.{bitAt}
 use Rattle.bits.specs.Refusals.{refusalBy}
 use Rattle.frame.specs.declared.modes.Row.{Row}
-use Rattle.frame.specs.Modes.{known, row}
+use Rattle.frame.specs.Modes.{flaggedBound, known, row}
 use Rattle.frame.specs.Lane.{laneOctets}
 use Rattle.receiver.specs.Release.{fresh, run}
 use Rattle.receiver.specs.Refusal.{releases, roomFor, refusalOf}
@@ -33,7 +33,7 @@ module _ (mode : ℕ) (lane o st c p q : List ℕ) where
     not-refused : refusalOf mode fresh (length lane) (length o) (length st) (length c) (length p) (length q) ≡ 0
     unfolding releases refusalBy
     not-refused =
-        refusal-is mode fresh (length lane) (length o) (length st) (length c) (length p) (length q) L (row mode .most) refl refl
+        refusal-is mode fresh (length lane) (length o) (length st) (length c) (length p) (length q) L (row mode .most) (flaggedBound (row mode .sync)) refl refl refl
         ∙ rw (is-known, fresh-accepted (row mode .sync), eq-eqb (length lane % L) 0 whole, le-ltb (row mode .most) (length lane / L) few, has-room (length lane / L - 1) (length o) (length st) (length c) (length p) (length q) room)
 
     pub all-received : entry mode fresh lane o st c p q ≡ laidOut (run (row mode) (bitAt lane) fresh (length lane / L)) o st c p q

@@ -10,9 +10,9 @@ use Rattle.bits.specs.Choice.{pick}
 use Rattle.bits.specs.Refusals.{_when_, refusalBy}
 use Rattle.bits.proofs.Choice.{parts-true}
 use Rattle.bits.proofs.Refusals.{not-given}
-use Rattle.frame.specs.declared.modes.Sync.{Sync}
 use Rattle.frame.specs.declared.modes.Row.{Row}
-use Rattle.frame.specs.Modes.{flaggedBound, known, row}
+use Rattle.frame.specs.declared.modes.Numbers.{Numbers}
+use Rattle.frame.specs.Modes.{known, row, numbersOf}
 use Rattle.frame.specs.Lane.{laneOctets}
 use Rattle.receiver.specs.declared.Receiver.{Receiver}
 use Rattle.receiver.specs.Refusal.{allZero, asFresh, stateFits, releases, roomFor, refusals, refusalOf}
@@ -27,50 +27,50 @@ all-fresh s zeros h c t z =
     ∙ sym (ap₂ (λ (a b : Bool). (a && eqb (s .command) 0) && (not b && allZero (s .octets))) (eq-eqb (s .history) 0 h) t
     ∙ ap (λ (a : Bool). a && allZero (s .octets)) (eq-eqb (s .command) 0 c))
 
-module _ (S : Sync) (s : Receiver) where
+module _ (flagged : ℕ) (s : Receiver) where
   fits-by : Bool → Bool → Bool → Bool
   fits-by h c w = (h && c) && (w || asFresh s)
 
-  fits-is : stateFits S s ≡ fits-by (ltb (s .history) (2 ^ 58)) (ltb (s .command) (flaggedBound S)) (s .waiting)
+  fits-is : stateFits flagged s ≡ fits-by (ltb (s .history) (2 ^ 58)) (ltb (s .command) (flagged)) (s .waiting)
   unfolding stateFits fits-by asFresh
   fits-is = refl
 
-  pub late-history : 2 ^ 58 ≤ s .history → false ≡ stateFits S s
+  pub late-history : 2 ^ 58 ≤ s .history → false ≡ stateFits flagged s
   unfolding fits-by
-  late-history h = sym (fits-is ∙ ap (λ (a : Bool). fits-by a (ltb (s .command) (flaggedBound S)) (s .waiting)) (le-ltb (s .history) (2 ^ 58) h))
+  late-history h = sym (fits-is ∙ ap (λ (a : Bool). fits-by a (ltb (s .command) (flagged)) (s .waiting)) (le-ltb (s .history) (2 ^ 58) h))
 
   module _ (h : s .history < 2 ^ 58) where
-    timely : (c : Bool) → ltb (s .command) (flaggedBound S) ≡ c → stateFits S s ≡ fits-by true c (s .waiting)
+    timely : (c : Bool) → ltb (s .command) (flagged) ≡ c → stateFits flagged s ≡ fits-by true c (s .waiting)
     timely c e = fits-is ∙ ap₂ (λ (a b : Bool). fits-by a b (s .waiting)) (lt-ltb (s .history) (2 ^ 58) h) e
 
-    pub wide-command : flaggedBound S ≤ s .command → false ≡ stateFits S s
+    pub wide-command : flagged ≤ s .command → false ≡ stateFits flagged s
     unfolding fits-by
-    wide-command c = sym (timely false (le-ltb (s .command) (flaggedBound S) c))
+    wide-command c = sym (timely false (le-ltb (s .command) (flagged) c))
 
-    pub waiting-fits : s .command < flaggedBound S → s .waiting ≡ true → true ≡ stateFits S s
+    pub waiting-fits : s .command < flagged → s .waiting ≡ true → true ≡ stateFits flagged s
     unfolding fits-by
-    waiting-fits c w = sym (timely true (lt-ltb (s .command) (flaggedBound S) c) ∙ ap (fits-by true true) w)
+    waiting-fits c w = sym (timely true (lt-ltb (s .command) (flagged) c) ∙ ap (fits-by true true) w)
 
-    pub idle-fits : s .command < flaggedBound S → s .waiting ≡ false → asFresh s ≡ stateFits S s
+    pub idle-fits : s .command < flagged → s .waiting ≡ false → asFresh s ≡ stateFits flagged s
     unfolding fits-by
-    idle-fits c w = sym (timely true (lt-ltb (s .command) (flaggedBound S) c) ∙ ap (fits-by true true) w)
+    idle-fits c w = sym (timely true (lt-ltb (s .command) (flagged) c) ∙ ap (fits-by true true) w)
 
 -- ---- the order of the numbers
 
 module _ (mode : ℕ) (s : Receiver) (lane octets statuses commands places patterns : ℕ) where
   -- by the numbers that the code goes by
-  pub refusal-is : (size most : ℕ) → size ≡ laneOctets (row mode .gap) → most ≡ row mode .most
+  pub refusal-is : (size most flagged : ℕ) → size ≡ laneOctets (row mode .gap) → most ≡ row mode .most → flagged ≡ numbersOf (row mode) .flagged
       → refusalOf mode s lane octets statuses commands places patterns
       ≡ refusalBy (
       1 when not (known mode)
-      ∷ 3 when not (stateFits (row mode .sync) s)
+      ∷ 3 when not (stateFits flagged s)
       ∷ 4 when not (eqb (lane % size) 0)
       ∷ 5 when ltb most (lane / size)
       ∷ 7 when not (roomFor (releases (s .waiting) (lane / size)) octets statuses commands places patterns)
       ∷ []
       )
   unfolding refusalOf
-  refusal-is size most e f = rw (e, f)
+  refusal-is size most flagged e f g = rw (e, f, g)
 
 -- ---- an accepted call
 

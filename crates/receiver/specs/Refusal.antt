@@ -5,9 +5,8 @@ use Prim.Native.Nat.{ℕ, _-_, _*_, _/_, _%_, _^_}
 use lib.Dec.{ltb, leb, eqb}
 use Rattle.bits.specs.Choice.{pick}
 use Rattle.bits.specs.Refusals.{Line, _when_, refusalBy}
-use Rattle.frame.specs.declared.modes.Sync.{Sync}
-use Rattle.frame.specs.Modes.{flaggedBound, known, row}
-use Rattle.frame.specs.Lane.{laneOctets}
+use Rattle.frame.specs.declared.modes.Numbers.{Numbers}
+use Rattle.frame.specs.Modes.{known, row, numbersOf}
 use Rattle.receiver.specs.declared.Receiver.{Receiver}
 
 unfoldable pub allZero : List ℕ → Bool
@@ -18,9 +17,9 @@ allZero (x ∷ l) = eqb x 0 && allZero l
 unfoldable pub asFresh : Receiver → Bool
 asFresh s = (eqb (s .history) 0 && eqb (s .command) 0) && (not (s .trusted) && allZero (s .octets))
 
--- each field of a state is in its range, and with nothing waiting all are as in a fresh one
-unfoldable pub stateFits : Sync → Receiver → Bool
-stateFits S s = (ltb (s .history) (2 ^ 58) && ltb (s .command) (flaggedBound S)) && (s .waiting || asFresh s)
+-- each field of a state is in its range, its command below a bound, and with nothing waiting all are as in a fresh one
+unfoldable pub stateFits : ℕ → Receiver → Bool
+stateFits flagged s = (ltb (s .history) (2 ^ 58) && ltb (s .command) flagged) && (s .waiting || asFresh s)
 
 -- how many are released when n are received
 unfoldable pub releases : Bool → ℕ → ℕ
@@ -31,15 +30,16 @@ unfoldable pub roomFor : ℕ → ℕ → ℕ → ℕ → ℕ → ℕ → Bool
 roomFor k octets statuses commands places patterns =
     leb (256 * k) octets && (leb k statuses && (leb k commands && (leb k places && leb k patterns)))
 
--- the table: lengths of the lane, and of the lent octets, statuses, commands, places and patterns
+-- the table, by the mode's numbers and the lengths of the lane and of the lent octets, statuses, commands, places and patterns
 abbrev pub refusals : ℕ → Receiver → ℕ → ℕ → ℕ → ℕ → ℕ → ℕ → List Line
 refusals mode s lane octets statuses commands places patterns =
-    let L = laneOctets (row mode .gap) in
+    let numbers = numbersOf (row mode) in
+    let n = lane / numbers .octets in
     1 when not (known mode)
-    ∷ 3 when not (stateFits (row mode .sync) s)
-    ∷ 4 when not (eqb (lane % L) 0)
-    ∷ 5 when ltb (row mode .most) (lane / L)
-    ∷ 7 when not (roomFor (releases (s .waiting) (lane / L)) octets statuses commands places patterns)
+    ∷ 3 when not (stateFits (numbers .flagged) s)
+    ∷ 4 when not (eqb (lane % numbers .octets) 0)
+    ∷ 5 when ltb (row mode .most) n
+    ∷ 7 when not (roomFor (releases (s .waiting) n) octets statuses commands places patterns)
     ∷ []
 
 unfoldable pub refusalOf : ℕ → Receiver → ℕ → ℕ → ℕ → ℕ → ℕ → ℕ → ℕ

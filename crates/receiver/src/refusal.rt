@@ -1,7 +1,7 @@
 // What is refused, lowest number first: document 01, "Numbers of refusal".
 ghost use mathlib.Core.Path.{_≡_};
 ghost use Prim.Native.Nat.{_≤_};
-ghost use Rattle.frame.specs.Modes.{row, numbersOf, flaggedBound, mostOfAll};
+ghost use Rattle.frame.specs.Modes.{row, numbersOf, mostOfAll};
 ghost use Rattle.receiver.specs.Refusal.{allZero, asFresh, stateFits, releases, roomFor, refusalOf};
 use crate::Receiver;
 use frame::modes;
@@ -36,9 +36,8 @@ fn as_fresh(state: Receiver) -> bool
 }
 
 // Whether each field of a state is in its range, where commands with their flag are below a bound.
-fn state_fits(mode: u8, flagged: u32, state: Receiver) -> bool
-    requires { ⌜ flagged ≡ flaggedBound (row mode .sync) ⌝ }
-    ensures { λ r. ⌜ r ≡ stateFits (row mode .sync) state ⌝ }
+fn state_fits(flagged: u32, state: Receiver) -> bool
+    ensures { λ r. ⌜ r ≡ stateFits flagged state ⌝ }
 {
     if state.history >= 0x400_0000_0000_0000 {
         return false;
@@ -114,7 +113,7 @@ pub(crate) fn refusal_of(
     if !modes::known(mode) {
         return 1;
     }
-    if !state_fits(mode, numbers.flagged, state) {
+    if !state_fits(numbers.flagged, state) {
         return 3;
     }
     let size = numbers.octets;

@@ -6,7 +6,8 @@ use native.Mathlib.Omega.{arith}
 use lib.ListN.{length, length-append}
 use lib.Seq.{sets}
 use Rattle.bits.specs.Order.{laid, laidAt}
-use Rattle.bits.proofs.Writing.{stored, length-laidAt, laidAt-none, laidAt-then, laidAt-start}
+use Rattle.bits.proofs.Laid.{laid-start}
+use Rattle.bits.proofs.Writing.{stored, length-laidAt, laidAt-none, laidAt-then}
 use Rattle.text.specs.inner.Wrote.{Wrote}
 
 -- octets stored one by one
@@ -53,4 +54,4 @@ room-start xs n h = omega arith
 pub wrote-laid : {new old text : List ℕ} {next : ℕ} → Wrote new 0 old next text → (next ≡ length new) × (text ≡ laid new old)
 wrote-laid {new} {old} w =
     let room : 0 + length new ≤ length old = w .fits in
-    (omega (arith, w .place), w .holds ∙ laidAt-start new old (omega arith))
+    (omega (arith, w .place), w .holds ∙ laid-start new old (omega arith))

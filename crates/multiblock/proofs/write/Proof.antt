@@ -10,8 +10,7 @@ use lib.ListN.{length, getD}
 use denote.Ref.{now}
 use Rattle.bits.specs.Order.{digit, number, octetsOf, wordBit, laid, laidAt}
 use Rattle.bits.proofs.Numbers.{number-none}
-use Rattle.bits.proofs.Laid.{too-short, laid-none, laid-word, length-laid-octets}
-use Rattle.bits.proofs.Writing.{laidAt-start}
+use Rattle.bits.proofs.Laid.{too-short, laid-none, laid-word, length-laid-octets, laid-start}
 use Rattle.frame.specs.Lane.{multiblock, multiblockBit}
 use Rattle.frame.proofs.Lane.{multiblockBit-lt}
 use Rattle.frame.proofs.Packing.{word-written, before-next, last-word, octets-written, length-written, block-given}
@@ -101,7 +100,7 @@ returns-2 c =
     ∙ ap (laidAt (octetsOf (digit 64 (l .before)) 8) 256) (l .inv .3 ∙ ap (λ (x : ℕ). laid (octetsOf lane (8 * x)) (now (a .lane))) e)
     ∙ laid-word lane (multiblockBit-lt 0 (a .sync) octets) 32 (l .before) (now (a .lane)) (omega arith) (last-word (a .sync) octets (l .block) (l .before) e (l .inv .1) (l .inv .2))
     ∙ ap (λ (x : List ℕ). laid x (now (a .lane))) (octets-written (a .sync) octets)
-    ∙ sym (laidAt-start (multiblock 0 (a .sync) octets) (now (a .lane)) (omega arith))
+    ∙ sym (laid-start (multiblock 0 (a .sync) octets) (now (a .lane)) (omega arith))
 
 pub write-spec : {M : Type 1} → statement M
 write-spec =

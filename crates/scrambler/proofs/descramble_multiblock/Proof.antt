@@ -6,8 +6,7 @@ use mathlib.Core.Path.{refl, sym, ap, _∙_}
 use mathlib.Core.List.{List}
 use Prim.Native.Nat.{ℕ}
 use Rattle.bits.specs.Order.{laid}
-use Rattle.bits.proofs.Laid.{too-short}
-use Rattle.bits.proofs.Writing.{laidAt-start}
+use Rattle.bits.proofs.Laid.{too-short, laid-start}
 use Rattle.scrambler.specs.Scrambling.{descrambled}
 use Rattle.scrambler.proofs.Scrambling.{length-descrambled, descrambled-words}
 use Rattle.scrambler.proofs.descramble_multiblock.Statement.{statement}
@@ -40,7 +39,7 @@ returns-2 c =
     let size = length-descrambled (a .octets .now) (a .history) 256 in
     c .before .before .descramble-blocks .ensures
     ∙ ap (λ (x : List ℕ). laid x (a .out .now)) (descrambled-words (a .octets .now) (a .history) 32 _ refl (c .before .before .before .before .before .before .blocks-of .ensures))
-    ∙ sym (laidAt-start (descrambled (a .octets .now) (a .history) 256) (a .out .now) (omega arith))
+    ∙ sym (laid-start (descrambled (a .octets .now) (a .history) 256) (a .out .now) (omega arith))
 
 pub descramble-multiblock-spec : {M : Type 1} → statement M
 descramble-multiblock-spec =

@@ -22,18 +22,18 @@ unfolding refusalBy
 returns c =
     let a = c .before .before .args in
     let pre = c .before .before .pre in
-    sym (refusal-is (a .mode) (a .state) (a .lane) (a .octets) (a .statuses) (a .commands) (a .places) (a .patterns) (a .numbers .octets) (a .most) (ap (λ (x : Numbers). x .octets) (pre .1)) (pre .0)
+    sym (refusal-is (a .mode) (a .state) (a .lane) (a .octets) (a .statuses) (a .commands) (a .places) (a .patterns) (a .numbers .octets) (a .most) (a .numbers .flagged) (ap (λ (x : Numbers). x .octets) (pre .1)) (pre .0) (ap (λ (x : Numbers). x .flagged) (pre .1))
     ∙ simp (sym (c .before .known .ensures) ∙ not-true _ (c .if1 .taken)))
 
 state-fits-requires : tie.Need-state-fits-requires
-state-fits-requires c κs = ap (λ (x : Numbers). x .flagged) (c .before .before .pre .1)
+state-fits-requires c κs = search needs
 
 returns-2 : tie.Need-returns-2
 unfolding refusalBy
 returns-2 c =
     let a = c .before .before .before .before .args in
     let pre = c .before .before .before .before .pre in
-    sym (refusal-is (a .mode) (a .state) (a .lane) (a .octets) (a .statuses) (a .commands) (a .places) (a .patterns) (a .numbers .octets) (a .most) (ap (λ (x : Numbers). x .octets) (pre .1)) (pre .0)
+    sym (refusal-is (a .mode) (a .state) (a .lane) (a .octets) (a .statuses) (a .commands) (a .places) (a .patterns) (a .numbers .octets) (a .most) (a .numbers .flagged) (ap (λ (x : Numbers). x .octets) (pre .1)) (pre .0) (ap (λ (x : Numbers). x .flagged) (pre .1))
     ∙ simp (sym (c .before .before .before .known .ensures) ∙ not-false _ (c .before .before .if1 .left), sym (c .before .state-fits .ensures) ∙ not-true _ (c .if2 .taken)))
 
 rem-if3 : tie.Need-rem-if3
@@ -44,7 +44,7 @@ unfolding refusalBy
 returns-3 c =
     let a = c .before .before .before .before .before .args in
     let pre = c .before .before .before .before .before .pre in
-    sym (refusal-is (a .mode) (a .state) (a .lane) (a .octets) (a .statuses) (a .commands) (a .places) (a .patterns) (a .numbers .octets) (a .most) (ap (λ (x : Numbers). x .octets) (pre .1)) (pre .0)
+    sym (refusal-is (a .mode) (a .state) (a .lane) (a .octets) (a .statuses) (a .commands) (a .places) (a .patterns) (a .numbers .octets) (a .most) (a .numbers .flagged) (ap (λ (x : Numbers). x .octets) (pre .1)) (pre .0) (ap (λ (x : Numbers). x .flagged) (pre .1))
     ∙ simp (sym (c .before .before .before .before .known .ensures) ∙ not-false _ (c .before .before .before .if1 .left), sym (c .before .before .state-fits .ensures) ∙ not-false _ (c .before .if2 .left), ne-eqb _ _ (c .if3 .taken)))
 
 div-n : tie.Need-div-n
@@ -55,7 +55,7 @@ unfolding refusalBy
 returns-4 c =
     let a = c .before .before .before .before .before .before .args in
     let pre = c .before .before .before .before .before .before .pre in
-    sym (refusal-is (a .mode) (a .state) (a .lane) (a .octets) (a .statuses) (a .commands) (a .places) (a .patterns) (a .numbers .octets) (a .most) (ap (λ (x : Numbers). x .octets) (pre .1)) (pre .0)
+    sym (refusal-is (a .mode) (a .state) (a .lane) (a .octets) (a .statuses) (a .commands) (a .places) (a .patterns) (a .numbers .octets) (a .most) (a .numbers .flagged) (ap (λ (x : Numbers). x .octets) (pre .1)) (pre .0) (ap (λ (x : Numbers). x .flagged) (pre .1))
     ∙ simp (sym (c .before .before .before .before .before .known .ensures) ∙ not-false _ (c .before .before .before .before .if1 .left), sym (c .before .before .before .state-fits .ensures) ∙ not-false _ (c .before .before .if2 .left), eq-eqb _ _ (c .before .if3 .left), lt-ltb _ _ (c .if4 .taken)))
 
 releases-requires : tie.Need-releases-requires
@@ -71,7 +71,7 @@ unfolding refusalBy
 returns-5 c =
     let a = c .before .before .before .before .before .before .before .before .before .args in
     let pre = c .before .before .before .before .before .before .before .before .before .pre in
-    sym (refusal-is (a .mode) (a .state) (a .lane) (a .octets) (a .statuses) (a .commands) (a .places) (a .patterns) (a .numbers .octets) (a .most) (ap (λ (x : Numbers). x .octets) (pre .1)) (pre .0)
+    sym (refusal-is (a .mode) (a .state) (a .lane) (a .octets) (a .statuses) (a .commands) (a .places) (a .patterns) (a .numbers .octets) (a .most) (a .numbers .flagged) (ap (λ (x : Numbers). x .octets) (pre .1)) (pre .0) (ap (λ (x : Numbers). x .flagged) (pre .1))
     ∙ simp (sym (c .before .before .before .before .before .before .before .before .known .ensures) ∙ not-false _ (c .before .before .before .before .before .before .before .if1 .left), sym (c .before .before .before .before .before .before .state-fits .ensures) ∙ not-false _ (c .before .before .before .before .before .if2 .left), eq-eqb _ _ (c .before .before .before .before .if3 .left), le-ltb _ _ (c .before .before .before .if4 .left), sym (c .before .before .releases .ensures), sym (c .before .room-for .ensures) ∙ not-true _ (c .if5 .taken)))
 
 returns-6 : tie.Need-returns-6
@@ -79,7 +79,7 @@ unfolding refusalBy
 returns-6 c =
     let a = c .before .before .before .before .before .before .before .before .before .args in
     let pre = c .before .before .before .before .before .before .before .before .before .pre in
-    sym (refusal-is (a .mode) (a .state) (a .lane) (a .octets) (a .statuses) (a .commands) (a .places) (a .patterns) (a .numbers .octets) (a .most) (ap (λ (x : Numbers). x .octets) (pre .1)) (pre .0)
+    sym (refusal-is (a .mode) (a .state) (a .lane) (a .octets) (a .statuses) (a .commands) (a .places) (a .patterns) (a .numbers .octets) (a .most) (a .numbers .flagged) (ap (λ (x : Numbers). x .octets) (pre .1)) (pre .0) (ap (λ (x : Numbers). x .flagged) (pre .1))
     ∙ simp (sym (c .before .before .before .before .before .before .before .before .known .ensures) ∙ not-false _ (c .before .before .before .before .before .before .before .if1 .left), sym (c .before .before .before .before .before .before .state-fits .ensures) ∙ not-false _ (c .before .before .before .before .before .if2 .left), eq-eqb _ _ (c .before .before .before .before .if3 .left), le-ltb _ _ (c .before .before .before .if4 .left), sym (c .before .before .releases .ensures), sym (c .before .room-for .ensures) ∙ not-false _ (c .if5 .left)))
 
 pub refusal-of-spec : {M : Type 1} → statement M
