@@ -6,12 +6,13 @@ use Prim.Native.Nat.{ℕ, _+_, _-_, _*_, _%_, _≤_, _<_}
 use native.Mathlib.Omega.{arith}
 use native.Mathlib.Decide.{ℕ-discrete}
 use borrow.Author.Tests.{not-false, le-leb, lt-leb, eq-eqb, ne-eqb, leb-true, eqb-true}
-use lib.Dec.{leb, eqb}
+use lib.Dec.{T, ltb, leb, eqb, ltb→lt}
 use lib.ListN.{length, getD, take, drop, length-drop}
 use lib.Seq.{take-all}
 use Rattle.bits.specs.Order.{bitAt, number}
 use Rattle.bits.specs.Refusals.{Line, _when_, refusalBy}
 use Rattle.bits.proofs.Choice.{parts-true}
+use Rattle.bits.proofs.Tests.{left, right}
 use Rattle.bits.proofs.Refusals.{Given, first, later, given, passed, none-left, not-given, whenever, only-when}
 use Rattle.frame.specs.declared.modes.Row.{Row}
 use Rattle.frame.specs.declared.modes.Numbers.{Numbers}
@@ -143,6 +144,24 @@ accepted capture z =
       whole = eqb-true _ 0 (not-false _ (not-given 4 (refusals capture) tt z));
       short = omega (arith, lane-length capture, formed .1, longest-known (modeOf capture) is-known);
     }
+
+-- ---- what the table's numbers are
+
+abbrev below : ℕ → List Line → Bool
+below m [] = true
+below m (number when test ∷ lines) = ltb number m && below m lines
+
+given-below : (k m : ℕ) (lines : List Line) → T (below m lines) → Given k lines → k < m
+given-below k m l t (first test lines e) = ltb→lt k m (left (ltb k m) (below m lines) t)
+given-below k m l t (later number test lines e g) = given-below k m lines (right (ltb number m) (below m lines) t) g
+
+pub refusal-below : (capture : List ℕ) → refusalOf capture < 10
+unfolding refusalOf
+refusal-below capture = by (ℕ-discrete (refusalBy (refusals capture)) 0)
+  where
+    by : Dec (refusalBy (refusals capture) ≡ 0) → refusalBy (refusals capture) < 10
+    by (yes z) = omega arith
+    by (no n) = given-below _ 10 (refusals capture) tt (only-when _ (refusals capture) n refl)
 
 -- ---- more lines behind the table
 

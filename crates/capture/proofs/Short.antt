@@ -3,16 +3,15 @@
 use mathlib.Core.Path.{_≡_, refl, sym, ap, _∙_}
 use mathlib.Core.Logic.{_⊎_, inl, inr}
 use mathlib.Core.Bool.{Bool, true, false, true≢false}
-use mathlib.Core.List.{List, [], _∷_, _++_}
+use mathlib.Core.List.{List, []}
 use Prim.Native.Nat.{ℕ, zero, suc, _+_, _-_, _*_, _%_, _^_, _≤_, _<_}
 use native.Mathlib.Nat.{not-suc-le-zero}
 use native.Mathlib.Omega.{arith}
 use native.Mathlib.Decide.{ℕ-discrete}
 use borrow.Author.Tests.{le-ltb, ltb-false}
-use lib.Dec.{ltb}
 use lib.ListN.{length, getD}
-use Rattle.bits.specs.Order.{bitAt}
-use Rattle.bits.specs.Refusals.{_when_, refusalBy}
+use Rattle.bits.specs.Order.{bitAt, laid}
+use Rattle.bits.specs.Refusals.{refusalBy}
 use Rattle.bits.proofs.Refusals.{none-left, passed, not-given}
 use Rattle.frame.specs.declared.modes.Sync.{Sync}
 use Rattle.frame.specs.declared.modes.Sync.the-variants.{Crc12, Fec}
@@ -31,11 +30,11 @@ use Rattle.receiver.proofs.Numbered.{nth, waiting, verdict, verdict-is, status-
 use Rattle.receiver.proofs.Verdicts.{Released, release-cases}
 use Rattle.text.specs.declared.Listed.{Listed}
 use Rattle.text.specs.Writing.{Done, done}
-use Rattle.text.proofs.Refusals.{Counted, counted}
+use Rattle.text.proofs.Refusals.{Counted, counted, whole}
 use Rattle.text.proofs.Short.{Few, text-short}
-use Rattle.capture.specs.Form.{modeOf, extentOf, laneOf, refusals, refusalOf}
-use Rattle.capture.specs.Listing.{receivedIn, releasesOf, laneText, listingOf, longestText, listed}
-use Rattle.capture.proofs.Refusals.{accepted, still-refused, not-yet-refused}
+use Rattle.capture.specs.Form.{modeOf, extentOf, laneOf, refusalOf}
+use Rattle.capture.specs.Listing.{receivedIn, releasesOf, laneText, listingOf, longestText, listingRefusals, listed}
+use Rattle.capture.proofs.Refusals.{refusal-below, accepted, still-refused, not-yet-refused}
 use Rattle.capture.proofs.Received.{received-few, released-are}
 
 pub longest-text : longestText ≡ 18 + 15 * (240 - 1)
@@ -140,16 +139,16 @@ listing-short capture z =
 
 -- ---- so that no capture is refused for want of room; what is counted stands in the text, which keeps its length
 
-listed-counted : (capture text : List ℕ) → Counted (refusalBy (refusals capture ++ 7 when ltb (length text) (length (listingOf capture)) ∷ [])) text (listed capture text)
+listed-counted : (capture text : List ℕ) → Counted (refusalBy (listingRefusals capture text)) text (listed capture text)
 unfolding listed
 listed-counted capture text =
     counted _ (listingOf capture) text
-    (λ z. ltb-false (length text) (length (listingOf capture)) (not-given 7 (refusals capture ++ 7 when ltb (length text) (length (listingOf capture)) ∷ []) tt z))
+    (λ z. ltb-false (length text) (length (listingOf capture)) (not-given 7 (listingRefusals capture text) tt z))
 
-room-enough : (capture text : List ℕ) → longestText ≤ length text → refusalBy (refusals capture ++ 7 when ltb (length text) (length (listingOf capture)) ∷ []) ≡ refusalOf capture
+room-enough : (capture text : List ℕ) → longestText ≤ length text → refusalBy (listingRefusals capture text) ≡ refusalOf capture
 room-enough capture text room = by (ℕ-discrete (refusalOf capture) 0)
   where
-    by : Dec (refusalOf capture ≡ 0) → refusalBy (refusals capture ++ 7 when ltb (length text) (length (listingOf capture)) ∷ []) ≡ refusalOf capture
+    by : Dec (refusalOf capture ≡ 0) → refusalBy (listingRefusals capture text) ≡ refusalOf capture
     by (no n) = sym (still-refused capture _ n)
     by (yes z) =
         sym (not-yet-refused capture _ z)
@@ -160,8 +159,17 @@ module _ (capture text text′ : List ℕ) (r : Listed) (e : done r text′ ≡ 
   pub refused-as : longestText ≤ length text → r .refusal ≡ refusalOf capture
   refused-as room = ap (λ (x : Done). x .answer .refusal) e ∙ listed-counted capture text .number ∙ room-enough capture text room
 
-  pub count-within : r .count ≤ length text
-  count-within = omega (arith, ap (λ (x : Done). x .answer .count) e, listed-counted capture text .within)
+  -- a digit, and no more
+  pub refused-below : longestText ≤ length text → r .refusal < 10
+  refused-below room = omega (arith, refused-as room, refusal-below capture)
 
-  pub count-within-after : r .count ≤ length text′
-  count-within-after = omega (arith, count-within, ap (λ (x : Done). length (x .text)) e, listed-counted capture text .long)
+  pub whole-listed : r .refusal ≡ 0 → (r .count ≡ length (listingOf capture)) × (text′ ≡ laid (listingOf capture) text)
+  unfolding listed
+  whole-listed z =
+      let is = e ∙ whole _ (listingOf capture) text (sym (listed-counted capture text .number) ∙ ap (λ (x : Done). x .answer .refusal) (sym e) ∙ z) in
+      (ap (λ (x : Done). x .answer .count) is, ap (λ (x : Done). x .text) is)
+
+  pub count-within : r .count ≤ length text′
+  count-within =
+      let so = listed-counted capture text in
+      omega (arith, ap (λ (x : Done). x .answer .count) e, so .within, ap (λ (x : Done). length (x .text)) e, so .long)

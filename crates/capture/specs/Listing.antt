@@ -4,7 +4,7 @@ use Prim.Native.Nat.{ℕ, _+_, _-_, _*_, _/_}
 use lib.Dec.{ltb}
 use lib.ListN.{length}
 use Rattle.bits.specs.Order.{bitAt}
-use Rattle.bits.specs.Refusals.{_when_, refusalBy}
+use Rattle.bits.specs.Refusals.{Line, _when_, refusalBy}
 use Rattle.frame.specs.declared.modes.Row.{Row}
 use Rattle.frame.specs.Modes.{row, mostOfAll}
 use Rattle.frame.specs.Lane.{laneOctets}
@@ -36,7 +36,10 @@ listingOf capture = laneText (row (modeOf capture)) (extentOf capture) (laneOf c
 unfoldable pub longestText : ℕ
 longestText = 18 + 15 * (mostOfAll - 1)
 
--- refused as the capture is, or by 7 where there is no room, with the text as it was; or the whole listing
+-- the table: the capture's, and then 7 where there is no room
+abbrev pub listingRefusals : List ℕ → List ℕ → List Line
+listingRefusals capture text = refusals capture ++ 7 when ltb (length text) (length (listingOf capture)) ∷ []
+
+-- refused, with the text as it was; or the whole listing
 unfoldable pub listed : List ℕ → List ℕ → Done
-listed capture text =
-    answerOf (refusalBy (refusals capture ++ 7 when ltb (length text) (length (listingOf capture)) ∷ [])) (listingOf capture) text
+listed capture text = answerOf (refusalBy (listingRefusals capture text)) (listingOf capture) text

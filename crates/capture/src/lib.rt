@@ -2,8 +2,8 @@
 ghost use mathlib.Core.Path.{_≡_};
 ghost use Prim.Native.Nat.{_+_};
 ghost use Rattle.frame.specs.Modes.{longestLane};
-ghost use Rattle.capture.specs.Form.{opened};
 ghost use Rattle.text.specs.Writing.{done};
+ghost use Rattle.capture.specs.Form.{opened};
 ghost use Rattle.capture.specs.Listing.{listed, longestText};
 use frame::modes;
 use text::Listed;

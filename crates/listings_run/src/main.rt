@@ -5,6 +5,9 @@ ghost use lib.ListN.{length};
 use libc::STDIN_FILENO;
 use libc::STDOUT_FILENO;
 
+// Captures that are too long are read whole too.
+const ROOM: usize = 2 * capture::LONGEST;
+
 // The count of the next section, or 0 at the end.
 fn read_count() -> usize {
     let mut head = [0u8; 4];
@@ -27,7 +30,7 @@ fn write_refusal(refusal: u8) {
 }
 
 fn write_listing(octets: &[u8]) {
-    let mut text = [0u8; 3603];
+    let mut text = [0u8; capture::TEXT];
     let listed = capture::listing(octets, &mut text);
     if listed.refusal != 0 {
         write_refusal(listed.refusal);
@@ -51,9 +54,9 @@ fn run_name() -> bool {
 }
 
 fn run_capture() {
-    let mut octets = [0u8; 65536];
+    let mut octets = [0u8; ROOM];
     let count = read_count();
-    if count > 65536 {
+    if count > ROOM {
         return;
     }
     read_octets(count, &mut octets);

@@ -29,6 +29,9 @@ accepted : (new text : List ℕ) → done (record { refusal = 0; count = length 
 unfolding answerOf
 accepted new text = refl
 
+pub whole : (refusal : ℕ) (new text : List ℕ) → refusal ≡ 0 → answerOf refusal new text ≡ done (record { refusal = 0; count = length new }) (laid new text)
+whole refusal new text z = ap (λ (k : ℕ). answerOf k new text) z ∙ sym (accepted new text)
+
 -- a call answers by the number that its table gives
 pub answered : {d : Done} (refusal : ℕ) (lines : List Line) (new text : List ℕ) → d ≡ answerOf refusal new text → refusal ≡ refusalBy lines → d ≡ answerOf (refusalBy lines) new text
 answered refusal lines new text e f = e ∙ ap (λ (k : ℕ). answerOf k new text) f

@@ -11,35 +11,27 @@ Inv-loop counter₀ counter = counter ≤ 1000
 abbrev μ-loop : tie.MeasureT-loop
 μ-loop counter₀ counter = 1000 - counter
 
--- src/main.rt:65:5
 loop-holds : tie.Need-loop-holds Inv-loop μ-loop
 loop-holds c = search needs
 
--- src/main.rt:66:13
 run-name-requires : tie.Need-run-name-requires Inv-loop μ-loop
 run-name-requires c κs = search needs
 
--- src/main.rt:67:13
 returns : tie.Need-returns Inv-loop μ-loop
 returns c = search needs
 
--- src/main.rt:69:9
 run-capture-requires : tie.Need-run-capture-requires Inv-loop μ-loop
 run-capture-requires c κs = search needs
 
--- src/main.rt:65:9
 add-counter : tie.Need-add-counter Inv-loop μ-loop
 add-counter c = search needs
 
--- src/main.rt:65:5
 loop-less : tie.Need-loop-less Inv-loop μ-loop
 loop-less c = search needs
 
--- src/main.rt:65:5
 loop-again : tie.Need-loop-again Inv-loop μ-loop
 loop-again c = search needs
 
--- src/main.rt:64:1
 returns-2 : tie.Need-returns-2 Inv-loop μ-loop
 returns-2 c = search needs
 

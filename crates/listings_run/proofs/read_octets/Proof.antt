@@ -7,23 +7,18 @@ use lib.Seq.{length-take-le}
 use Rattle.listings_run.proofs.read_octets.Statement.{statement}
 use Rattle.listings_run.proofs.read_octets.Tie as tie
 
--- src/main.rt:20:33
 slice-relend-prefix-read-full : tie.Need-slice-relend-prefix-read-full
 slice-relend-prefix-read-full c = search needs
 
--- src/main.rt:20:33
 slice-aggregate-read-full : tie.Need-slice-aggregate-read-full
 slice-aggregate-read-full c = sym (length-take-le _ _ (c .before .before .pre))
 
--- src/main.rt:20:5
 read-full-requires : tie.Need-read-full-requires
 read-full-requires c κs = search needs
 
--- src/main.rt:16:1
 same-length : tie.Need-same-length
 same-length c = search needs
 
--- src/main.rt:16:1
 returns : tie.Need-returns
 returns c = omega (arith, same-length c, c .before .before .before .before .before .pre)
 

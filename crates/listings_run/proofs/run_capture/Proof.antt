@@ -6,35 +6,27 @@ use lib.Seq.{length-take-le}
 use Rattle.listings_run.proofs.run_capture.Statement.{statement}
 use Rattle.listings_run.proofs.run_capture.Tie as tie
 
--- src/main.rt:55:9
 read-count-requires : tie.Need-read-count-requires
 read-count-requires c κs = search needs
 
--- src/main.rt:57:9
 returns : tie.Need-returns
 returns c = search needs
 
--- src/main.rt:59:24
 slice-aggregate-read-octets : tie.Need-slice-aggregate-read-octets
 slice-aggregate-read-octets c = search needs
 
--- src/main.rt:59:5
 read-octets-requires : tie.Need-read-octets-requires
 read-octets-requires c κs = search needs
 
--- src/main.rt:60:19
 array-share-prefix-octets : tie.Need-array-share-prefix-octets
 array-share-prefix-octets c = search needs
 
--- src/main.rt:60:19
 slice-aggregate-write-listing : tie.Need-slice-aggregate-write-listing
 slice-aggregate-write-listing c = sym (length-take-le _ _ (c .before .before .read-octets .ensures))
 
--- src/main.rt:60:5
 write-listing-requires : tie.Need-write-listing-requires
 write-listing-requires c κs = search needs
 
--- src/main.rt:53:1
 returns-2 : tie.Need-returns-2
 returns-2 c = search needs
 
