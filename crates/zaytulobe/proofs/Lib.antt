@@ -1,3 +1,3 @@
--- What the entries answer to callers in C.
-pub mod Received
-pub mod Stepped
+-- Laws of states as numbers, that each stands for one state; and of what an entry answers by a number of refusal.
+pub mod Back
+pub mod Answers

@@ -1,4 +1,7 @@
--- What the entries promise to callers in C.
+-- What the entries promise to callers in C, and the states as numbers beneath.
 pub mod Receiving
 pub mod Locking
 pub mod Running
+pub mod Receivers
+pub mod Locks
+pub mod Bool

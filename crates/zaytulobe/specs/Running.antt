@@ -7,8 +7,8 @@ use Rattle.bits.specs.Choice.{pick}
 use Rattle.longest.specs.Longest.{spanOf, refusalFor}
 use Rattle.zaytulobe.specs.declared.RunNumbers.{RunNumbers}
 
-unfoldable pub ran : List ℕ → List ℕ → RunNumbers
-ran octets statuses =
+unfoldable pub longestNumbers : List ℕ → List ℕ → RunNumbers
+longestNumbers octets statuses =
     pick (eqb (refusalFor octets statuses) 0)
     (record { refusal = 0; start = spanOf statuses .start; count = spanOf statuses .count })
     (record { refusal = refusalFor octets statuses; start = 0; count = 0 })

@@ -1,17 +1,17 @@
 // The entries for callers in C. A slice is a pointer and a length there; a state is a struct of numbers, by value.
 ghost use mathlib.Core.Path.{_≡_};
-ghost use mathlib.Core.Bool.{_&&_};
-ghost use lib.Dec.{ltb, leb};
-ghost use Rattle.bits.specs.Choice.{pick};
 ghost use Rattle.sender.specs.Lane.{fresh};
-ghost use Rattle.sender.specs.Entry.{done as sent, entry};
-ghost use Rattle.capture.specs.Listing.{done as written, listed};
-ghost use Rattle.zaytulobe.specs.Running.{ran};
-use capture::Listed;
+ghost use Rattle.sender.specs.Entry.{done as sendDone, entry};
+ghost use Rattle.text.specs.Writing.{done as listDone};
+ghost use Rattle.capture.specs.Listing.{listed};
+ghost use Rattle.zaytulobe.specs.Running.{longestNumbers};
 use sender::Sender;
 use sender::Sent;
+use text::Listed;
 
 pub mod locking;
+pub mod locks;
+pub mod receivers;
 pub mod receiving;
 
 // A refusal, or 0 with the longest run in multiblocks: the first, and how many.
@@ -20,22 +20,6 @@ pub struct RunNumbers {
     pub refusal: u8,
     pub start: usize,
     pub count: usize,
-}
-
-// A mode or an E out of range comes before a flag or a phase that is none. The receiver has no E and hands 1, which is in range.
-fn refusal_of(mode: u8, e: u32) -> u8
-    ensures { λ r. ⌜ r ≡ pick (ltb 1 mode) 1 (pick (leb 1 e && leb e 256) 3 2) ⌝ }
-{
-    if mode > 1 {
-        return 1;
-    }
-    if e < 1 {
-        return 2;
-    }
-    if e > 256 {
-        return 2;
-    }
-    3
 }
 
 // A sender's first state.
@@ -56,7 +40,7 @@ pub extern "C" fn zaytulobe_send(
     commands: &[u32],
     lane: &mut [u8],
 ) -> Sent
-    ensures { λ r. ⌜ sent r (now (lane .exit)) ≡ entry mode e state (now (user .entry)) (now (commands .entry)) (now (lane .entry)) ⌝ }
+    ensures { λ r. ⌜ sendDone r (now (lane .exit)) ≡ entry mode e state (now (user .entry)) (now (commands .entry)) (now (lane .entry)) ⌝ }
 {
     sender::send(mode, e, state, user, commands, lane)
 }
@@ -64,7 +48,7 @@ pub extern "C" fn zaytulobe_send(
 // The longest run of multiblocks with status 0 or 1, in numbers.
 #[no_mangle]
 pub extern "C" fn zaytulobe_longest_run(octets: &[u8], statuses: &[u8]) -> RunNumbers
-    ensures { λ r. ⌜ r ≡ ran (now (octets .entry)) (now (statuses .entry)) ⌝ }
+    ensures { λ r. ⌜ r ≡ longestNumbers (now (octets .entry)) (now (statuses .entry)) ⌝ }
 {
     let refusal = longest::refusal_for(octets, statuses);
     if refusal != 0 {
@@ -85,7 +69,7 @@ pub extern "C" fn zaytulobe_longest_run(octets: &[u8], statuses: &[u8]) -> RunNu
 // The listing of a capture, over the start of `text`.
 #[no_mangle]
 pub extern "C" fn zaytulobe_listing(capture: &[u8], text: &mut [u8]) -> Listed
-    ensures { λ r. ⌜ written r (now (text .exit)) ≡ listed (now (capture .entry)) (now (text .entry)) ⌝ }
+    ensures { λ r. ⌜ listDone r (now (text .exit)) ≡ listed (now (capture .entry)) (now (text .entry)) ⌝ }
 {
     capture::listing(capture, text)
 }

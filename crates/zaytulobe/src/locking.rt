@@ -1,12 +1,13 @@
 // The locks for callers in C. Clause 7.6; document 01, "Lock tables".
 ghost use mathlib.Core.Path.{_≡_};
+ghost use Rattle.bits.specs.Refusals.{refusalBy};
 ghost use Rattle.lock.specs.Table.{fresh};
-ghost use Rattle.numbers.specs.Locks.{numbersOf};
-ghost use Rattle.zaytulobe.specs.Locking.{stepped};
-use crate::refusal_of;
+ghost use Rattle.zaytulobe.specs.Locks.{numbersOf};
+ghost use Rattle.zaytulobe.specs.Locking.{refusals, stepNumbers};
+use crate::locks;
+use crate::locks::LockNumbers;
+use frame::modes;
 use lock::Lock;
-use numbers::locks;
-use numbers::locks::LockNumbers;
 
 // A refusal or 0, and the locks for the next step.
 #[repr(C)]
@@ -23,7 +24,23 @@ pub extern "C" fn zaytulobe_fresh_lock() -> LockNumbers
     locks::numbers_of(Lock::fresh())
 }
 
-// Both locks after one more header; refused by 3 too where the flag or the phase is none.
+// What is asked before numbers are read as a state.
+fn refusal_of(mode: u8, e: u32, lock: LockNumbers) -> u8
+    ensures { λ r. ⌜ r ≡ refusalBy (refusals mode e lock) ⌝ }
+{
+    if !modes::known(mode) {
+        return 1;
+    }
+    if !modes::extent_fits(e) {
+        return 2;
+    }
+    if !locks::fit(lock) {
+        return 3;
+    }
+    0
+}
+
+// Both locks after one more header; refused by 3 too where the bool or the phase is none.
 #[no_mangle]
 pub extern "C" fn zaytulobe_lock_step(
     mode: u8,
@@ -31,13 +48,11 @@ pub extern "C" fn zaytulobe_lock_step(
     lock: LockNumbers,
     header: u8,
 ) -> SteppedNumbers
-    ensures { λ r. ⌜ r ≡ stepped mode e lock header ⌝ }
+    ensures { λ r. ⌜ r ≡ stepNumbers mode e lock header ⌝ }
 {
-    if !locks::fit(lock) {
-        return SteppedNumbers {
-            refusal: refusal_of(mode, e),
-            lock,
-        };
+    let refusal = refusal_of(mode, e, lock);
+    if refusal != 0 {
+        return SteppedNumbers { refusal, lock };
     }
     let given = locks::state_of(lock);
     let stepped = lock::step(mode, e, given, header);

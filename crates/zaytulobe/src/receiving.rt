@@ -1,11 +1,12 @@
 // The receiver for callers in C. Document 01, "What the receiver releases".
 ghost use mathlib.Core.Path.{_≡_};
+ghost use Rattle.bits.specs.Refusals.{refusalBy};
 ghost use Rattle.receiver.specs.Release.{fresh};
-ghost use Rattle.numbers.specs.Receivers.{numbersOf};
-ghost use Rattle.zaytulobe.specs.Receiving.{done, received};
-use crate::refusal_of;
-use numbers::receivers;
-use numbers::receivers::ReceiverNumbers;
+ghost use Rattle.zaytulobe.specs.Receivers.{numbersOf};
+ghost use Rattle.zaytulobe.specs.Receiving.{done, refusals, receiveNumbers};
+use crate::receivers;
+use crate::receivers::ReceiverNumbers;
+use frame::modes;
 use receiver::Receiver;
 
 // A refusal, or 0 with the multiblocks released; and the state for the next call.
@@ -24,7 +25,20 @@ pub extern "C" fn zaytulobe_fresh_receiver() -> ReceiverNumbers
     receivers::numbers_of(Receiver::fresh())
 }
 
-// Receives the multiblocks of `lane`; refused by 3 too where a flag is neither 0 nor 1.
+// What is asked before numbers are read as a state.
+fn refusal_of(mode: u8, state: ReceiverNumbers) -> u8
+    ensures { λ r. ⌜ r ≡ refusalBy (refusals mode state) ⌝ }
+{
+    if !modes::known(mode) {
+        return 1;
+    }
+    if !receivers::fit(state) {
+        return 3;
+    }
+    0
+}
+
+// Receives the multiblocks of `lane`; refused by 3 too where a bool is neither 0 nor 1.
 #[no_mangle]
 pub extern "C" fn zaytulobe_receive(
     mode: u8,
@@ -37,11 +51,12 @@ pub extern "C" fn zaytulobe_receive(
     patterns: &mut [u16],
 ) -> ReceivedNumbers
     ensures { λ r. ⌜ done r (now (octets .exit)) (now (statuses .exit)) (now (commands .exit)) (now (places .exit)) (now (patterns .exit))
-        ≡ received mode state (now (lane .entry)) (now (octets .entry)) (now (statuses .entry)) (now (commands .entry)) (now (places .entry)) (now (patterns .entry)) ⌝ }
+        ≡ receiveNumbers mode state (now (lane .entry)) (now (octets .entry)) (now (statuses .entry)) (now (commands .entry)) (now (places .entry)) (now (patterns .entry)) ⌝ }
 {
-    if !receivers::fit(state) {
+    let refusal = refusal_of(mode, state);
+    if refusal != 0 {
         return ReceivedNumbers {
-            refusal: refusal_of(mode, 1),
+            refusal,
             count: 0,
             state,
         };

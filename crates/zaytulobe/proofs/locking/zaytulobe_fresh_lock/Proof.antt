@@ -2,7 +2,7 @@
 -- Assumes nothing.
 use borrow.Author.Needs.{needs}
 use mathlib.Core.Path.{ap, _∙_}
-use Rattle.numbers.specs.Locks.{numbersOf}
+use Rattle.zaytulobe.specs.Locks.{numbersOf}
 use Rattle.zaytulobe.proofs.locking.zaytulobe_fresh_lock.Statement.{statement}
 use Rattle.zaytulobe.proofs.locking.zaytulobe_fresh_lock.Tie as tie
 

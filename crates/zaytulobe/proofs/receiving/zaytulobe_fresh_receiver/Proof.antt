@@ -2,7 +2,7 @@
 -- Assumes nothing.
 use borrow.Author.Needs.{needs}
 use mathlib.Core.Path.{ap, _∙_}
-use Rattle.numbers.specs.Receivers.{numbersOf}
+use Rattle.zaytulobe.specs.Receivers.{numbersOf}
 use Rattle.zaytulobe.proofs.receiving.zaytulobe_fresh_receiver.Statement.{statement}
 use Rattle.zaytulobe.proofs.receiving.zaytulobe_fresh_receiver.Tie as tie
 

@@ -1,22 +1,49 @@
 -- `zaytulobe::receiving::zaytulobe_receive` meets its contract.
 -- Assumes nothing.
 use borrow.Author.Needs.{needs}
-use borrow.Author.Tests.{not-true, not-false}
+use mathlib.Core.Path.{_≡_, ap, _∙_}
+use mathlib.Core.List.{List}
+use Prim.Native.Nat.{ℕ}
 use denote.Ref.{now}
-use Rattle.zaytulobe.proofs.Received.{is-refused, is-received}
+use Rattle.bits.specs.Refusals.{refusalBy}
+use Rattle.receiver.specs.declared.Receiver.{Receiver}
+use Rattle.receiver.specs.declared.Received.{Received}
+use Rattle.receiver.specs.Entry.{entry}
+use Rattle.receiver.specs.Entry as receiver
+use Rattle.zaytulobe.specs.declared.receivers.ReceiverNumbers.{ReceiverNumbers}
+use Rattle.zaytulobe.specs.Receivers.{stateOf, numbersOf}
+use Rattle.zaytulobe.specs.Receiving.{Done, done, inNumbers, refusals, receiveNumbers}
+use Rattle.zaytulobe.proofs.Answers.{by-number, by-none}
 use Rattle.zaytulobe.proofs.receiving.zaytulobe_receive.Statement.{statement}
 use Rattle.zaytulobe.proofs.receiving.zaytulobe_receive.Tie as tie
 
-fit-requires : tie.Need-fit-requires
-fit-requires c κs = search needs
+module _ (mode : ℕ) (x : ReceiverNumbers) (lane o s c p q : List ℕ) (refusal : ℕ) (e : refusal ≡ refusalBy (refusals mode x)) where
+  abbrev whole : Done
+  whole = inNumbers (entry mode (stateOf x) lane o s c p q)
+
+  abbrev refused : ℕ → Done
+  refused k = done (record { refusal = k; count = 0; state = x }) o s c p q
+
+  is-refused : (refusal ≡ 0 → ⊥) → refused refusal ≡ receiveNumbers mode x lane o s c p q
+  unfolding receiveNumbers
+  is-refused some = by-number refusal (refusalBy (refusals mode x)) whole refused e some
+
+  is-received : refusal ≡ 0 → (given : Receiver) (answer : Received) (after : ReceiverNumbers) (o′ s′ c′ p′ q′ : List ℕ) → given ≡ stateOf x →
+      receiver.done answer o′ s′ c′ p′ q′ ≡ entry mode given lane o s c p q → after ≡ numbersOf (answer .state) →
+      done (record { refusal = answer .refusal; count = answer .count; state = after }) o′ s′ c′ p′ q′ ≡ receiveNumbers mode x lane o s c p q
+  unfolding receiveNumbers inNumbers
+  is-received none given answer after o′ s′ c′ p′ q′ g r a =
+      ap (λ (y : ReceiverNumbers). done (record { refusal = answer .refusal; count = answer .count; state = y }) o′ s′ c′ p′ q′) a
+      ∙ ap inNumbers (r ∙ ap (λ (y : Receiver). entry mode y lane o s c p q) g)
+      ∙ by-none refusal (refusalBy (refusals mode x)) whole refused e none
 
 refusal-of-requires : tie.Need-refusal-of-requires
 refusal-of-requires c κs = search needs
 
 returns : tie.Need-returns
 returns c =
-    let a = c .before .before .before .before .before .before .before .before .before .args in
-    is-refused (a .mode) (a .state) (now (a .lane)) (now (a .octets)) (now (a .statuses)) (now (a .commands)) (now (a .places)) (now (a .patterns)) (c .before .before .fit .result) (c .before .before .fit .ensures) (c .refusal-of .result) (not-true _ (c .before .if1 .taken)) (c .refusal-of .ensures)
+    let a = c .before .before .before .before .before .before .before .before .args in
+    is-refused (a .mode) (a .state) (now (a .lane)) (now (a .octets)) (now (a .statuses)) (now (a .commands)) (now (a .places)) (now (a .patterns)) _ (c .before .refusal-of .ensures) (c .if1 .taken)
 
 state-of-requires : tie.Need-state-of-requires
 state-of-requires c κs = search needs
@@ -44,12 +71,13 @@ same-length-5 c = search needs
 
 returns-2 : tie.Need-returns-2
 returns-2 c =
-    let a = c .before .before .before .before .before .before .before .before .before .before .before .before .before .before .before .before .before .before .before .before .before .before .before .before .before .before .before .args in
-    let f = c .before .before .before .before .before .before .before .before .before .before .before .before .before .before .before .before .before .before .before .before .fit in
-    let received = c .before .before .before .before .before .before .before .before .before .before .before .before .receive in
-    is-received (a .mode) (a .state) (now (a .lane)) (now (a .octets)) (now (a .statuses)) (now (a .commands)) (now (a .places)) (now (a .patterns)) (f .result) (f .ensures) (c .before .before .before .before .before .before .before .before .before .before .before .before .before .before .before .before .before .before .state-of .result) (received .result) (c .numbers-of .result) _ _ _ _ _ (not-false _ (c .before .before .before .before .before .before .before .before .before .before .before .before .before .before .before .before .before .before .before .if1 .left)) (c .before .before .before .before .before .before .before .before .before .before .before .before .before .before .before .before .before .before .state-of .ensures) (received .ensures) (c .numbers-of .ensures)
+    let received = c .before .before .before .before .before .before .before .before .before .before .before .before in
+    let given = received .before .before .before .before .before .before in
+    let a = given .before .before .before .before .before .before .before .before .before .args in
+    is-received (a .mode) (a .state) (now (a .lane)) (now (a .octets)) (now (a .statuses)) (now (a .commands)) (now (a .places)) (now (a .patterns)) _ (given .before .before .refusal-of .ensures) (given .before .if1 .left)
+    (given .state-of .result) (received .receive .result) (c .numbers-of .result) _ _ _ _ _ (given .state-of .ensures) (received .receive .ensures) (c .numbers-of .ensures)
 
 pub zaytulobe-receive-spec : {M : Type 1} → statement M
 zaytulobe-receive-spec =
     tie.close
-    (tie.spec fit-requires refusal-of-requires returns state-of-requires receive-requires numbers-of-requires same-length same-length-2 same-length-3 same-length-4 same-length-5 returns-2)
+    (tie.spec refusal-of-requires returns state-of-requires receive-requires numbers-of-requires same-length same-length-2 same-length-3 same-length-4 same-length-5 returns-2)

@@ -1,2 +1,0 @@
--- Laws of states as numbers: that each stands for one state.
-pub mod Back

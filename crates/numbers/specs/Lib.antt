@@ -1,4 +1,0 @@
--- States as numbers.
-pub mod Flag
-pub mod Receivers
-pub mod Locks

@@ -1,0 +1,18 @@
+-- A receiver's state as numbers: which numbers fit, the state that they stand for, and back (document 01, "What the receiver releases").
+-- Assumes nothing.
+use mathlib.Core.Bool.{Bool, _&&_}
+use Rattle.bits.specs.Choice.{bitOf}
+use Rattle.receiver.specs.declared.Receiver.{Receiver}
+use Rattle.zaytulobe.specs.declared.receivers.ReceiverNumbers.{ReceiverNumbers}
+use Rattle.zaytulobe.specs.Bool.{isBool, boolOf}
+
+-- each bool is 0 or 1
+unfoldable pub fit : ReceiverNumbers → Bool
+fit x = isBool (x .waiting) && isBool (x .trusted)
+
+-- the state that numbers stand for, and the numbers of a state
+unfoldable pub stateOf : ReceiverNumbers → Receiver
+stateOf x = record { waiting = boolOf (x .waiting); octets = x .octets; history = x .history; trusted = boolOf (x .trusted); command = x .command }
+
+unfoldable pub numbersOf : Receiver → ReceiverNumbers
+numbersOf s = record { history = s .history; command = s .command; waiting = bitOf (s .waiting); trusted = bitOf (s .trusted); octets = s .octets }
