@@ -7,8 +7,8 @@ use borrow.Author.Tests.{eq-eqb, ne-eqb}
 use lib.ListN.{length, take}
 use lib.Seq.{sets}
 use Rattle.bits.specs.Order.{laid}
-use Rattle.bits.proofs.Laid.{length-laid, taken-back}
-use Rattle.bits.proofs.Writing.{stored, laidAt-start}
+use Rattle.bits.proofs.Laid.{length-laid, taken-back, laid-start}
+use Rattle.bits.proofs.Writing.{stored}
 use Rattle.text.specs.declared.Listed.{Listed}
 use Rattle.text.specs.Writing.{done}
 use Rattle.text.proofs.Decimal.{one-digit}
@@ -27,7 +27,7 @@ line-is n h = rw (one-digit n h)
 
 pub line-put : (n : ℕ) (text : List ℕ) → n < 10 → 10 ≤ length text → (10 ≡ length (refusedLine n)) × (sets text 0 (line n) ≡ laid (refusedLine n) text)
 line-put n text h room =
-    (ap length (line-is n h), stored (line n) text 0 room ∙ laidAt-start (line n) text room ∙ ap (λ (l : List ℕ). laid l text) (line-is n h))
+    (ap length (line-is n h), stored (line n) text 0 room ∙ laid-start (line n) text room ∙ ap (λ (l : List ℕ). laid l text) (line-is n h))
 
 -- what was laid over the start stands there
 laid-printed : (new old text : List ℕ) (count : ℕ) → length new ≤ length old → count ≡ length new → text ≡ laid new old → (count ≤ length text) × (take count text ≡ new)
