@@ -2,7 +2,7 @@
 -- nothing.
 use mathlib.Core.Path.{_≡_, refl, sym, ap, _∙_}
 use mathlib.Core.Logic.{_⊎_, inl, inr}
-use mathlib.Core.Bool.{Bool, true, false, true≢false}
+use mathlib.Core.Bool.{true, true≢false}
 use mathlib.Core.List.{List, []}
 use Prim.Native.Nat.{ℕ, zero, suc, _+_, _-_, _*_, _%_, _^_, _≤_, _<_}
 use native.Mathlib.Nat.{not-suc-le-zero}
@@ -18,15 +18,11 @@ use Rattle.frame.specs.declared.modes.Sync.the-variants.{Crc12, Fec}
 use Rattle.frame.specs.declared.modes.Row.{Row}
 use Rattle.frame.specs.Modes.{code, repairs, row, mostOfAll}
 use Rattle.frame.proofs.Rows.{few, most-is, extent-within}
-use Rattle.judge.specs.declared.Verdict.{Verdict}
-use Rattle.judge.specs.Judge.{judged, releasedStatus}
-use Rattle.judge.proofs.Judging.{difference, judged-sound, judged-failed, status-trusted, status-untrusted}
-use Rattle.judge.proofs.Verdicts.{small}
 use Rattle.receiver.specs.Release.{Release, fresh, releaseAt, run}
 use Rattle.receiver.specs.Entry.{column}
 use Rattle.receiver.proofs.Afresh.{all-but-one}
 use Rattle.receiver.proofs.Buffers.{column-length}
-use Rattle.receiver.proofs.Numbered.{nth, waiting, verdict, verdict-is, status-is, numbered, column-at}
+use Rattle.receiver.proofs.Numbered.{nth, waiting, numbered, column-at}
 use Rattle.receiver.proofs.Verdicts.{Released, release-cases}
 use Rattle.text.specs.declared.Listed.{Listed}
 use Rattle.text.specs.Writing.{Done, done}
@@ -41,29 +37,6 @@ pub longest-text : longestText ≡ 18 + 15 * (240 - 1)
 unfolding longestText
 longest-text = ap (λ (n : ℕ). 18 + 15 * (n - 1)) most-is
 
--- ---- a burst is flipped back only where the code repairs
-
-not-repaired : (S : Sync) (octets : List ℕ) (parity : ℕ) → repairs S ≡ false → judged S octets parity .status ≡ 1 → ⊥
-not-repaired S octets parity r e = by (ℕ-discrete (difference S octets parity) 0)
-  where
-    by : Dec (difference S octets parity ≡ 0) → ⊥
-    by (yes z) = omega (arith, e, ap (λ (v : Verdict). v .status) (judged-sound S octets parity z))
-    by (no n) = omega (arith, e, ap (λ (v : Verdict). v .status) (judged-failed S octets parity r n))
-
-status-of : (v : Verdict) (trusted : Bool) → v .status ≤ 2 → releasedStatus v trusted % 4 ≡ v .status
-status-of v true h = omega (arith, status-trusted v)
-status-of v false h = omega (arith, status-untrusted v)
-
-repaired : (S : Sync) (octets : List ℕ) (parity : ℕ) (v : Verdict) (trusted : Bool) → v ≡ judged S octets parity → releasedStatus v trusted % 4 ≡ 1 → repairs S ≡ true
-repaired S octets parity v trusted e one = by (repairs S) refl
-  where
-    is-one : judged S octets parity .status ≡ 1
-    is-one = ap (λ (x : Verdict). x .status) (sym e) ∙ sym (status-of v trusted (small S octets parity v e)) ∙ one
-
-    by : (b : Bool) → repairs S ≡ b → repairs S ≡ true
-    by true q = q
-    by false q = absurd (not-repaired S octets parity q is-one)
-
 -- ---- the digits of a release's numbers
 
 status-below : (n : ℕ) → (n ≤ 2) ⊎ ((4 ≤ n) × (n ≤ 6)) → n < 10
@@ -74,13 +47,13 @@ burst-below : (S : Sync) (place pattern : ℕ) → repairs S ≡ true → place 
 burst-below Crc12 place pattern y h l = absurd (true≢false (sym y))
 burst-below Fec place pattern y h l = (omega arith, omega arith)
 
-few-digits : (S : Sync) (r : Release) → Released (code S) r → (r .status % 4 ≡ 1 → repairs S ≡ true) → Few (r .status) (r .place) (r .pattern)
-few-digits S r k y = by (ℕ-discrete (r .status % 4) 1)
+few-digits : (S : Sync) (r : Release) → Released S r → Few (r .status) (r .place) (r .pattern)
+few-digits S r k = by (ℕ-discrete (r .status % 4) 1)
   where
     by : Dec (r .status % 4 ≡ 1) → Few (r .status) (r .place) (r .pattern)
     by (yes e) =
         let b = k .cases .burst e in
-        let small = burst-below S (r .place) (r .pattern) (y e) (b .0) (b .2) in
+        let small = burst-below S (r .place) (r .pattern) (b .0) (b .1) (b .3) in
         record { status-one = status-below (r .status) (k .status); place-four = small .0; pattern-three = small .1 }
     by (no n) =
         let b = k .cases .none n in
@@ -90,10 +63,7 @@ few-digits S r k y = by (ℕ-discrete (r .status % 4) 1)
 few-at : (R : Row) (lane : ℕ → ℕ) (n i : ℕ) → i < n - 1 → let r = nth (run R lane fresh n .out) i in Few (r .status) (r .place) (r .pattern)
 few-at R lane zero i h = absurd (not-suc-le-zero h)
 few-at R lane (suc n) i h =
-    let s = waiting R lane i in
-    let judged-so = repaired (R .sync) _ _ (verdict R lane i) (s .trusted) (verdict-is R lane i) in
-    rw (numbered R lane n i (omega arith))
-    (few-digits (R .sync) (releaseAt R lane (suc i) s) (release-cases R lane (suc i) s) (λ e. judged-so (ap (λ (k : ℕ). k % 4) (sym (status-is R lane i)) ∙ e)))
+    let s = waiting R lane i in rw (numbered R lane n i (omega arith)) (few-digits (R .sync) (releaseAt R lane (suc i) s) (release-cases R lane (suc i) s))
 
 few-released : (R : Row) (lane : List ℕ) (i : ℕ) → i < length (releasesOf R lane) → let r = nth (releasesOf R lane) i in Few (r .status) (r .place) (r .pattern)
 unfolding releasesOf

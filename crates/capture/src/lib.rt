@@ -17,7 +17,7 @@ pub const LONGEST: usize = 11 + modes::LONGEST_LANE;
 pub const TEXT: usize = 18 + 15 * (modes::MOST - 1);
 
 // A refusal, or 0 with the mode, E, and where the lane octets stand.
-pub struct Opened {
+struct Opened {
     pub refusal: u8,
     pub mode: u8,
     pub e: u32,
@@ -26,7 +26,7 @@ pub struct Opened {
 }
 
 // The sections of a capture.
-pub fn open(capture: &[u8]) -> Opened
+fn open(capture: &[u8]) -> Opened
     ensures { λ r. ⌜ r ≡ opened (now (capture .entry)) ⌝ }
 {
     let refusal = form::refusal_of(capture);
