@@ -1,6 +1,6 @@
 -- What a table of refusals gives, and when: document 01, "Numbers of refusal". A number is given exactly when its line applies and none before
 -- it does. Assumes nothing.
-use mathlib.Core.Path.{_≡_, refl, sym, _∙_, subst}
+use mathlib.Core.Path.{_≡_, refl, sym, ap, _∙_, subst}
 use mathlib.Core.Bool.{Bool, true, false, not, _&&_}
 use mathlib.Core.List.{List, [], _∷_}
 use Prim.Native.Nat.{ℕ}
@@ -12,6 +12,10 @@ use Rattle.bits.proofs.Choice.{pick-both}
 use Rattle.bits.proofs.Tests.{left, right}
 
 -- ---- line by line, as code goes through a table
+
+-- what a negated test of the code says of a line's
+pub line : {b t u : Bool} → b ≡ t → not b ≡ u → not t ≡ u
+line e q = sym (ap not e) ∙ q
 
 pub given : (number : ℕ) (test : Bool) (lines : List Line) → test ≡ true → number ≡ refusalBy (number when test ∷ lines)
 unfolding refusalBy

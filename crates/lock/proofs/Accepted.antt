@@ -1,12 +1,12 @@
 -- An accepted state steps to an accepted state, and a call is taken exactly where all its parts are in range. Assumes nothing.
-use mathlib.Core.Path.{_≡_, refl, sym, subst}
-use mathlib.Core.Bool.{Bool, true, false, _||_, or-true}
+use mathlib.Core.Path.{_≡_, refl, sym, ap, subst, _∙_}
+use mathlib.Core.Bool.{Bool, true, false, not, _||_, or-true}
 use Prim.Native.Nat.{ℕ, _*_, _≤_, _<_}
 use native.Mathlib.Omega.{arith}
 use borrow.Author.Tests.{le-ltb, ltb-false, not-false}
 use Rattle.bits.specs.Refusals.{refusalBy}
 use Rattle.bits.proofs.Choice.{both-true, parts-true}
-use Rattle.bits.proofs.Refusals.{not-given}
+use Rattle.bits.proofs.Refusals.{passed, none-left, not-given}
 use Rattle.frame.specs.Modes.{known, extentFits}
 use Rattle.lock.specs.HeaderTable.{valid, headerStep}
 use Rattle.lock.specs.Table.{fresh, extendedAfter, lockStep}
@@ -79,8 +79,13 @@ module _ (mode E : ℕ) (lock : Lock) (header : ℕ) where
       }
 
   pub not-refused : Taken mode E lock header → refusalBy (refusals mode E lock header) ≡ 0
-  unfolding refusalBy
-  not-refused t = simp (t .of-mode, t .extent, t .state, le-ltb 3 header (t .value))
+  not-refused t =
+      sym
+      (none-left
+      ∙ passed 9 _ _ (le-ltb 3 header (t .value))
+      ∙ passed 3 _ _ (ap not (t .state))
+      ∙ passed 2 _ _ (ap not (t .extent))
+      ∙ passed 1 _ _ (ap not (t .of-mode)))
 
 pub stepped-taken : {mode E : ℕ} {lock : Lock} {header : ℕ} → Taken mode E lock header → stepped mode E lock header ≡ record { refusal = 0; lock = lockStep (widthOf mode) (32 * E) lock header }
 unfolding stepped

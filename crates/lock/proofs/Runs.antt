@@ -9,9 +9,9 @@ use native.Mathlib.Nat.{zero-add}
 use native.Mathlib.Omega.{arith}
 use Rattle.bits.specs.Order.{listFrom}
 use Rattle.bits.proofs.Lists.{list-none, list-one, list-append, list-ext}
-use Rattle.frame.specs.Lane.{blockWidth}
-use Rattle.frame.specs.Modes.{known, extentFits}
+use Rattle.frame.specs.Modes.{known, row, extentFits}
 use Rattle.frame.proofs.Rows.{extent-within}
+use Rattle.frame.proofs.Sizes.{width-some}
 use Rattle.lock.specs.Table.{fresh, lockStep}
 use Rattle.lock.specs.Ranges.{accepted}
 use Rattle.lock.specs.Refusals.{widthOf, stepped}
@@ -52,8 +52,7 @@ module _ (mode E : ℕ) (headers : ℕ → ℕ) where
 
 -- a block has bits
 some-width : (mode : ℕ) → 0 < widthOf mode
-unfolding blockWidth
-some-width mode = omega arith
+some-width mode = width-some (row mode .gap)
 
 module _ (mode E : ℕ) (headers : ℕ → ℕ) (of-mode : known mode ≡ true) (extent : extentFits E ≡ true) (values : (n : ℕ) → headers n ≤ 3) where
   -- a run from fresh stays with accepted states

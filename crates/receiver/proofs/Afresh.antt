@@ -1,21 +1,20 @@
 -- What a call gives that starts from a fresh receiver, and what its lists hold: document 01, "What the receiver releases". Assumes nothing.
-use mathlib.Core.Path.{_≡_, refl, _∙_}
-use mathlib.Core.Bool.{true}
+use mathlib.Core.Path.{_≡_, sym, ap, _∙_}
+use mathlib.Core.Bool.{true, not}
 use mathlib.Core.List.{List}
 use Prim.Native.Nat.{ℕ, _-_, _*_, _/_, _%_, _≤_}
 use borrow.Author.Tests.{le-leb, le-ltb, eq-eqb}
 use lib.ListN.{length}
 use Rattle.bits.specs.Order.{bitAt}
-use Rattle.bits.specs.Refusals.{refusalBy}
+use Rattle.bits.proofs.Refusals.{passed, none-left}
 use Rattle.frame.specs.declared.modes.Row.{Row}
-use Rattle.frame.specs.Modes.{flaggedBound, known, row}
+use Rattle.frame.specs.Modes.{known, row}
 use Rattle.frame.specs.Lane.{laneOctets}
 use Rattle.receiver.specs.Release.{fresh, run}
 use Rattle.receiver.specs.Refusal.{releases, roomFor, refusalOf}
 use Rattle.receiver.specs.Entry.{laidOut, entry}
 use Rattle.receiver.specs.inner.Turn.{Room}
 use Rattle.receiver.proofs.Accepted.{fresh-accepted}
-use Rattle.receiver.proofs.Refusals.{refusal-is}
 use Rattle.receiver.proofs.Counts.{counts}
 
 has-room : (k octets statuses commands places patterns : ℕ) → Room k octets statuses commands places patterns → roomFor k octets statuses commands places patterns ≡ true
@@ -31,10 +30,15 @@ module _ (mode : ℕ) (lane o st c p q : List ℕ) where
   module _ (is-known : known mode ≡ true) (whole : length lane % L ≡ 0) (few : length lane / L ≤ row mode .most)
       (room : Room (length lane / L - 1) (length o) (length st) (length c) (length p) (length q)) where
     not-refused : refusalOf mode fresh (length lane) (length o) (length st) (length c) (length p) (length q) ≡ 0
-    unfolding releases refusalBy
+    unfolding releases refusalOf
     not-refused =
-        refusal-is mode fresh (length lane) (length o) (length st) (length c) (length p) (length q) L (row mode .most) (flaggedBound (row mode .sync)) refl refl refl
-        ∙ rw (is-known, fresh-accepted (row mode .sync), eq-eqb (length lane % L) 0 whole, le-ltb (row mode .most) (length lane / L) few, has-room (length lane / L - 1) (length o) (length st) (length c) (length p) (length q) room)
+        sym
+        (none-left
+        ∙ passed 7 _ _ (ap not (has-room (length lane / L - 1) (length o) (length st) (length c) (length p) (length q) room))
+        ∙ passed 5 _ _ (le-ltb (row mode .most) (length lane / L) few)
+        ∙ passed 4 _ _ (ap not (eq-eqb (length lane % L) 0 whole))
+        ∙ passed 3 _ _ (ap not (fresh-accepted (row mode .sync)))
+        ∙ passed 1 _ _ (ap not is-known))
 
     pub all-received : entry mode fresh lane o st c p q ≡ laidOut (run (row mode) (bitAt lane) fresh (length lane / L)) o st c p q
     unfolding entry

@@ -57,20 +57,20 @@ module _ (flagged : ℕ) (s : Receiver) where
 
 -- ---- the order of the numbers
 
-module _ (mode : ℕ) (s : Receiver) (lane octets statuses commands places patterns : ℕ) where
-  -- by the numbers that the code goes by
-  pub refusal-is : (size most flagged : ℕ) → size ≡ laneOctets (row mode .gap) → most ≡ row mode .most → flagged ≡ numbersOf (row mode) .flagged
-      → refusalOf mode s lane octets statuses commands places patterns
-      ≡ refusalBy (
+-- the table by the numbers that the code goes by
+module _ (mode : ℕ) (s : Receiver) (lane octets statuses commands places patterns most : ℕ) (numbers : Numbers) where
+  pub by-code : most ≡ row mode .most → numbers ≡ numbersOf (row mode)
+      → refusalBy (
       1 when not (known mode)
-      ∷ 3 when not (stateFits flagged s)
-      ∷ 4 when not (eqb (lane % size) 0)
-      ∷ 5 when ltb most (lane / size)
-      ∷ 7 when not (roomFor (releases (s .waiting) (lane / size)) octets statuses commands places patterns)
+      ∷ 3 when not (stateFits (numbers .flagged) s)
+      ∷ 4 when not (eqb (lane % numbers .octets) 0)
+      ∷ 5 when ltb most (lane / numbers .octets)
+      ∷ 7 when not (roomFor (releases (s .waiting) (lane / numbers .octets)) octets statuses commands places patterns)
       ∷ []
       )
+      ≡ refusalOf mode s lane octets statuses commands places patterns
   unfolding refusalOf
-  refusal-is size most flagged e f g = rw (e, f, g)
+  by-code e f = rw (e, f)
 
 -- ---- an accepted call
 

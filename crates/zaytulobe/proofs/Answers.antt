@@ -1,14 +1,10 @@
 -- What an entry answers by a number of refusal: the refusal with that number, or the whole answer where it is 0. Assumes nothing.
 use mathlib.Core.Path.{_≡_, sym, ap, _∙_}
-use mathlib.Core.Bool.{Bool, not}
+use mathlib.Core.Bool.{Bool}
 use Prim.Native.Nat.{ℕ}
 use borrow.Author.Tests.{eq-eqb, ne-eqb}
 use lib.Dec.{eqb}
 use Rattle.bits.specs.Choice.{pick}
-
--- what a test of the code says of a line's
-pub line : {b t u : Bool} → b ≡ t → not b ≡ u → not t ≡ u
-line e q = sym (ap not e) ∙ q
 
 module _ {A : Type 0} (refusal number : ℕ) (whole : A) (refused : ℕ → A) (e : refusal ≡ number) where
   pub by-number : (refusal ≡ 0 → ⊥) → refused refusal ≡ pick (eqb number 0) whole (refused number)

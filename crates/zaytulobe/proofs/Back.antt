@@ -46,21 +46,21 @@ number-back Following = refl
 number-back Locked = refl
 
 -- a receiver's state
-pub receiver-numbers : (x : ReceiverNumbers) → T (receivers.fit x) → receivers.numbersOf (receivers.stateOf x) ≡ x
-unfolding receivers.fit receivers.numbersOf receivers.stateOf
+pub receiver-numbers : (x : ReceiverNumbers) → T (receivers.fit x) → receivers.asNumbers (receivers.stateOf x) ≡ x
+unfolding receivers.fit receivers.asNumbers receivers.stateOf
 receiver-numbers x h =
     ap₂ (λ (w t : ℕ). record { history = x .history; command = x .command; waiting = w; trusted = t; octets = x .octets })
     (bool-back (x .waiting) (leb→le (x .waiting) 1 (left (isBool (x .waiting)) (isBool (x .trusted)) h)))
     (bool-back (x .trusted) (leb→le (x .trusted) 1 (right (isBool (x .waiting)) (isBool (x .trusted)) h)))
 
-pub receiver-state : (s : Receiver) → receivers.stateOf (receivers.numbersOf s) ≡ s
-unfolding receivers.numbersOf receivers.stateOf
+pub receiver-state : (s : Receiver) → receivers.stateOf (receivers.asNumbers s) ≡ s
+unfolding receivers.asNumbers receivers.stateOf
 receiver-state s =
     ap₂ (λ (w t : Bool). record { waiting = w; octets = s .octets; history = s .history; trusted = t; command = s .command })
     (bit-back (s .waiting)) (bit-back (s .trusted))
 
-pub receiver-fits : (s : Receiver) → T (receivers.fit (receivers.numbersOf s))
-unfolding receivers.fit receivers.numbersOf
+pub receiver-fits : (s : Receiver) → T (receivers.fit (receivers.asNumbers s))
+unfolding receivers.fit receivers.asNumbers
 receiver-fits s = go (s .waiting) (s .trusted)
   where
     go : (w t : Bool) → T (isBool (bitOf w) && isBool (bitOf t))
@@ -70,8 +70,8 @@ receiver-fits s = go (s .waiting) (s .trusted)
     go false false = tt
 
 -- the locks' state
-pub lock-numbers : (x : LockNumbers) → T (locks.fit x) → locks.numbersOf (locks.stateOf x) ≡ x
-unfolding locks.fit locks.numbersOf locks.stateOf
+pub lock-numbers : (x : LockNumbers) → T (locks.fit x) → locks.asNumbers (locks.stateOf x) ≡ x
+unfolding locks.fit locks.asNumbers locks.stateOf
 lock-numbers x h =
     ap₂ (λ (l p : ℕ). record {
       header = record { locked = l; offset = x .header .offset; run = x .header .run; bad = x .header .bad };
@@ -87,8 +87,8 @@ lock-numbers x h =
     (bool-back (x .header .locked) (leb→le (x .header .locked) 1 (left (isBool (x .header .locked)) (leb (x .extended .phase) 2) h)))
     (phase-back (x .extended .phase) (leb→le (x .extended .phase) 2 (right (isBool (x .header .locked)) (leb (x .extended .phase) 2) h)))
 
-pub lock-state : (l : Lock) → locks.stateOf (locks.numbersOf l) ≡ l
-unfolding locks.numbersOf locks.stateOf
+pub lock-state : (l : Lock) → locks.stateOf (locks.asNumbers l) ≡ l
+unfolding locks.asNumbers locks.stateOf
 lock-state l =
     ap₂ (λ (b : Bool) (p : Phase). record {
       header = record { locked = b; offset = l .header .offset; run = l .header .run; bad = l .header .bad };
@@ -103,8 +103,8 @@ lock-state l =
     })
     (bit-back (l .header .locked)) (number-back (l .extended .phase))
 
-pub lock-fits : (l : Lock) → T (locks.fit (locks.numbersOf l))
-unfolding locks.fit locks.numbersOf
+pub lock-fits : (l : Lock) → T (locks.fit (locks.asNumbers l))
+unfolding locks.fit locks.asNumbers
 lock-fits l = go (l .header .locked) (l .extended .phase)
   where
     go : (b : Bool) (p : Phase) → T (isBool (bitOf b) && leb (locks.phaseNumber p) 2)

@@ -10,12 +10,12 @@ use Rattle.frame.specs.Modes.{known, extentFits}
 use Rattle.lock.specs.declared.Stepped.{Stepped}
 use Rattle.lock.specs.Refusals.{stepped}
 use Rattle.zaytulobe.specs.declared.locks.LockNumbers.{LockNumbers}
-use Rattle.zaytulobe.specs.Locks.{fit, stateOf, numbersOf}
+use Rattle.zaytulobe.specs.Locks.{fit, stateOf, asNumbers}
 use Rattle.zaytulobe.specs.declared.locking.SteppedNumbers.{SteppedNumbers}
 
 -- the locks' answer in numbers
 unfoldable pub inNumbers : Stepped → SteppedNumbers
-inNumbers r = record { refusal = r .refusal; lock = numbersOf (r .lock) }
+inNumbers r = record { refusal = r .refusal; lock = asNumbers (r .lock) }
 
 -- what is asked before numbers are read as a state
 abbrev pub refusals : ℕ → ℕ → LockNumbers → List Line

@@ -37,8 +37,8 @@ stateOf x = record {
   };
 }
 
-unfoldable pub numbersOf : Lock → LockNumbers
-numbersOf l = record {
+unfoldable pub asNumbers : Lock → LockNumbers
+asNumbers l = record {
   header = record { locked = bitOf (l .header .locked); offset = l .header .offset; run = l .header .run; bad = l .header .bad };
   extended = record {
     phase = phaseNumber (l .extended .phase);

@@ -14,5 +14,5 @@ fit x = isBool (x .waiting) && isBool (x .trusted)
 unfoldable pub stateOf : ReceiverNumbers → Receiver
 stateOf x = record { waiting = boolOf (x .waiting); octets = x .octets; history = x .history; trusted = boolOf (x .trusted); command = x .command }
 
-unfoldable pub numbersOf : Receiver → ReceiverNumbers
-numbersOf s = record { history = s .history; command = s .command; waiting = bitOf (s .waiting); trusted = bitOf (s .trusted); octets = s .octets }
+unfoldable pub asNumbers : Receiver → ReceiverNumbers
+asNumbers s = record { history = s .history; command = s .command; waiting = bitOf (s .waiting); trusted = bitOf (s .trusted); octets = s .octets }

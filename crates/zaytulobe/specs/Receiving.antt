@@ -10,7 +10,7 @@ use Rattle.frame.specs.Modes.{known}
 use Rattle.receiver.specs.Entry.{entry}
 use Rattle.receiver.specs.Entry as receiver
 use Rattle.zaytulobe.specs.declared.receivers.ReceiverNumbers.{ReceiverNumbers}
-use Rattle.zaytulobe.specs.Receivers.{fit, stateOf, numbersOf}
+use Rattle.zaytulobe.specs.Receivers.{fit, stateOf, asNumbers}
 use Rattle.zaytulobe.specs.declared.receiving.ReceivedNumbers.{ReceivedNumbers}
 
 -- an answer, and the buffers at exit
@@ -28,7 +28,7 @@ done r o s c p q = record { answer = r; octets = o; statuses = s; commands = c; 
 -- the receiver's answer in numbers, and its buffers
 unfoldable pub inNumbers : receiver.Done → Done
 inNumbers d =
-    done (record { refusal = d .answer .refusal; count = d .answer .count; state = numbersOf (d .answer .state) })
+    done (record { refusal = d .answer .refusal; count = d .answer .count; state = asNumbers (d .answer .state) })
     (d .octets) (d .statuses) (d .commands) (d .places) (d .patterns)
 
 -- what is asked before numbers are read as a state

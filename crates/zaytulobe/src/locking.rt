@@ -2,7 +2,7 @@
 ghost use mathlib.Core.Path.{_≡_};
 ghost use Rattle.bits.specs.Refusals.{refusalBy};
 ghost use Rattle.lock.specs.Table.{fresh};
-ghost use Rattle.zaytulobe.specs.Locks.{numbersOf};
+ghost use Rattle.zaytulobe.specs.Locks.{asNumbers};
 ghost use Rattle.zaytulobe.specs.Locking.{refusals, stepNumbers};
 use crate::locks;
 use crate::locks::LockNumbers;
@@ -19,9 +19,9 @@ pub struct SteppedNumbers {
 // The locks' first state.
 #[no_mangle]
 pub extern "C" fn zaytulobe_fresh_lock() -> LockNumbers
-    ensures { λ r. ⌜ r ≡ numbersOf fresh ⌝ }
+    ensures { λ r. ⌜ r ≡ asNumbers fresh ⌝ }
 {
-    locks::numbers_of(Lock::fresh())
+    locks::as_numbers(Lock::fresh())
 }
 
 // What is asked before numbers are read as a state.
@@ -57,7 +57,7 @@ pub extern "C" fn zaytulobe_lock_step(
     let given = locks::state_of(lock);
     let stepped = lock::step(mode, e, given, header);
     let after = stepped.lock;
-    let numbers = locks::numbers_of(after);
+    let numbers = locks::as_numbers(after);
     SteppedNumbers {
         refusal: stepped.refusal,
         lock: numbers,

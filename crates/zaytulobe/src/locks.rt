@@ -1,7 +1,7 @@
 // The locks' state as numbers, for callers in C, who may hand any number where a bool or a phase is meant: whether numbers fit, the state that
 // they stand for, and the numbers of a state. Clause 7.6; document 01, "Lock tables" and "Numbers of refusal".
 ghost use mathlib.Core.Path.{_≡_};
-ghost use Rattle.zaytulobe.specs.Locks.{fit, phaseOf, phaseNumber, stateOf, numbersOf};
+ghost use Rattle.zaytulobe.specs.Locks.{fit, phaseOf, phaseNumber, stateOf, asNumbers};
 use lock::ExtendedLock;
 use lock::HeaderLock;
 use lock::Lock;
@@ -90,8 +90,8 @@ pub(crate) fn state_of(given: LockNumbers) -> Lock
 }
 
 // The numbers of a state.
-pub(crate) fn numbers_of(lock: Lock) -> LockNumbers
-    ensures { λ r. ⌜ r ≡ numbersOf lock ⌝ }
+pub(crate) fn as_numbers(lock: Lock) -> LockNumbers
+    ensures { λ r. ⌜ r ≡ asNumbers lock ⌝ }
 {
     let state = lock.header;
     let header = HeaderNumbers {

@@ -1,7 +1,7 @@
 // A receiver's state as numbers, for callers in C, who may hand any number where a bool is meant: whether numbers fit, the state that they
 // stand for, and the numbers of a state. Document 01, "What the receiver releases" and "Numbers of refusal".
 ghost use mathlib.Core.Path.{_≡_};
-ghost use Rattle.zaytulobe.specs.Receivers.{fit, stateOf, numbersOf};
+ghost use Rattle.zaytulobe.specs.Receivers.{fit, stateOf, asNumbers};
 use receiver::Receiver;
 
 // `waiting` and `trusted` are 0 or 1.
@@ -36,8 +36,8 @@ pub(crate) fn state_of(given: ReceiverNumbers) -> Receiver
 }
 
 // The numbers of a state.
-pub(crate) fn numbers_of(state: Receiver) -> ReceiverNumbers
-    ensures { λ r. ⌜ r ≡ numbersOf state ⌝ }
+pub(crate) fn as_numbers(state: Receiver) -> ReceiverNumbers
+    ensures { λ r. ⌜ r ≡ asNumbers state ⌝ }
 {
     let octets = state.octets;
     ReceiverNumbers {

@@ -2,7 +2,7 @@
 ghost use mathlib.Core.Path.{_≡_};
 ghost use Rattle.bits.specs.Refusals.{refusalBy};
 ghost use Rattle.receiver.specs.Release.{fresh};
-ghost use Rattle.zaytulobe.specs.Receivers.{numbersOf};
+ghost use Rattle.zaytulobe.specs.Receivers.{asNumbers};
 ghost use Rattle.zaytulobe.specs.Receiving.{done, refusals, receiveNumbers};
 use crate::receivers;
 use crate::receivers::ReceiverNumbers;
@@ -20,9 +20,9 @@ pub struct ReceivedNumbers {
 // A receiver's first state.
 #[no_mangle]
 pub extern "C" fn zaytulobe_fresh_receiver() -> ReceiverNumbers
-    ensures { λ r. ⌜ r ≡ numbersOf fresh ⌝ }
+    ensures { λ r. ⌜ r ≡ asNumbers fresh ⌝ }
 {
-    receivers::numbers_of(Receiver::fresh())
+    receivers::as_numbers(Receiver::fresh())
 }
 
 // What is asked before numbers are read as a state.
@@ -73,7 +73,7 @@ pub extern "C" fn zaytulobe_receive(
         patterns,
     );
     let after = received.state;
-    let numbers = receivers::numbers_of(after);
+    let numbers = receivers::as_numbers(after);
     ReceivedNumbers {
         refusal: received.refusal,
         count: received.count,

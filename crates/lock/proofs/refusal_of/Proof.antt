@@ -7,7 +7,7 @@ use mathlib.Core.Bool.{Bool, true, false, not}
 use native.Mathlib.Omega.{arith}
 use borrow.Author.Tests.{lt-ltb, le-ltb, not-false}
 use Rattle.bits.specs.Refusals.{refusalBy}
-use Rattle.bits.proofs.Refusals.{given, passed, none-left}
+use Rattle.bits.proofs.Refusals.{line, given, passed, none-left}
 use Rattle.frame.specs.Modes.{known, extentFits}
 use Rattle.frame.proofs.Rows.{extent-within}
 use Rattle.lock.specs.Ranges.{accepted}
@@ -15,10 +15,6 @@ use Rattle.lock.specs.Refusals.{widthOf, refusals}
 use Rattle.lock.specs.declared.Lock.{Lock}
 use Rattle.lock.proofs.refusal_of.Statement.{statement}
 use Rattle.lock.proofs.refusal_of.Tie as tie
-
--- what a test of the code says of a line's
-line : {b t u : Bool} → b ≡ t → not b ≡ u → not t ≡ u
-line e q = sym (ap not e) ∙ q
 
 module _ (mode E header : ℕ) (lock : Lock) where
   first : not (known mode) ≡ true → 1 ≡ refusalBy (refusals mode E lock header)

@@ -9,7 +9,7 @@ use Rattle.lock.specs.declared.Stepped.{Stepped}
 use Rattle.lock.specs.Refusals.{stepped}
 use Rattle.zaytulobe.specs.declared.locks.LockNumbers.{LockNumbers}
 use Rattle.zaytulobe.specs.declared.locking.SteppedNumbers.{SteppedNumbers}
-use Rattle.zaytulobe.specs.Locks.{stateOf, numbersOf}
+use Rattle.zaytulobe.specs.Locks.{stateOf, asNumbers}
 use Rattle.zaytulobe.specs.Locking.{inNumbers, refusals, stepNumbers}
 use Rattle.zaytulobe.proofs.Answers.{by-number, by-none}
 use Rattle.zaytulobe.proofs.locking.zaytulobe_lock_step.Statement.{statement}
@@ -27,7 +27,7 @@ module _ (mode E : ℕ) (x : LockNumbers) (header refusal : ℕ) (e : refusal �
   is-refused some = by-number refusal (refusalBy (refusals mode E x)) whole refused e some
 
   is-stepped : refusal ≡ 0 → (given : Lock) (answer : Stepped) (after : LockNumbers) → given ≡ stateOf x →
-      answer ≡ stepped mode E given header → after ≡ numbersOf (answer .lock) →
+      answer ≡ stepped mode E given header → after ≡ asNumbers (answer .lock) →
       _≡_ {A = SteppedNumbers} (record { refusal = answer .refusal; lock = after }) (stepNumbers mode E x header)
   unfolding stepNumbers inNumbers
   is-stepped none given answer after g s a =
@@ -49,8 +49,8 @@ state-of-requires c κs = search needs
 step-requires : tie.Need-step-requires
 step-requires c κs = search needs
 
-numbers-of-requires : tie.Need-numbers-of-requires
-numbers-of-requires c κs = search needs
+as-numbers-requires : tie.Need-as-numbers-requires
+as-numbers-requires c κs = search needs
 
 returns-2 : tie.Need-returns-2
 returns-2 c =
@@ -58,9 +58,9 @@ returns-2 c =
     let given = stepped .before in
     let a = given .before .before .before .args in
     is-stepped (a .mode) (a .e) (a .lock) (a .header) _ (given .before .before .refusal-of .ensures) (given .before .if1 .left)
-    (given .state-of .result) (stepped .step .result) (c .numbers-of .result) (given .state-of .ensures) (stepped .step .ensures) (c .numbers-of .ensures)
+    (given .state-of .result) (stepped .step .result) (c .as-numbers .result) (given .state-of .ensures) (stepped .step .ensures) (c .as-numbers .ensures)
 
 pub zaytulobe-lock-step-spec : {M : Type 1} → statement M
 zaytulobe-lock-step-spec =
     tie.close
-    (tie.spec refusal-of-requires returns state-of-requires step-requires numbers-of-requires returns-2)
+    (tie.spec refusal-of-requires returns state-of-requires step-requires as-numbers-requires returns-2)

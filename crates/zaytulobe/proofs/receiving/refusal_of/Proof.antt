@@ -2,8 +2,7 @@
 -- Assumes nothing.
 use borrow.Author.Needs.{needs}
 use mathlib.Core.Path.{_∙_}
-use Rattle.bits.proofs.Refusals.{given, passed, none-left}
-use Rattle.zaytulobe.proofs.Answers.{line}
+use Rattle.bits.proofs.Refusals.{line, given, passed, none-left}
 use Rattle.zaytulobe.proofs.receiving.refusal_of.Statement.{statement}
 use Rattle.zaytulobe.proofs.receiving.refusal_of.Tie as tie
 

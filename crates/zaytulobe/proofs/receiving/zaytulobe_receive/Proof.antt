@@ -11,7 +11,7 @@ use Rattle.receiver.specs.declared.Received.{Received}
 use Rattle.receiver.specs.Entry.{entry}
 use Rattle.receiver.specs.Entry as receiver
 use Rattle.zaytulobe.specs.declared.receivers.ReceiverNumbers.{ReceiverNumbers}
-use Rattle.zaytulobe.specs.Receivers.{stateOf, numbersOf}
+use Rattle.zaytulobe.specs.Receivers.{stateOf, asNumbers}
 use Rattle.zaytulobe.specs.Receiving.{Done, done, inNumbers, refusals, receiveNumbers}
 use Rattle.zaytulobe.proofs.Answers.{by-number, by-none}
 use Rattle.zaytulobe.proofs.receiving.zaytulobe_receive.Statement.{statement}
@@ -29,7 +29,7 @@ module _ (mode : ℕ) (x : ReceiverNumbers) (lane o s c p q : List ℕ) (refusal
   is-refused some = by-number refusal (refusalBy (refusals mode x)) whole refused e some
 
   is-received : refusal ≡ 0 → (given : Receiver) (answer : Received) (after : ReceiverNumbers) (o′ s′ c′ p′ q′ : List ℕ) → given ≡ stateOf x →
-      receiver.done answer o′ s′ c′ p′ q′ ≡ entry mode given lane o s c p q → after ≡ numbersOf (answer .state) →
+      receiver.done answer o′ s′ c′ p′ q′ ≡ entry mode given lane o s c p q → after ≡ asNumbers (answer .state) →
       done (record { refusal = answer .refusal; count = answer .count; state = after }) o′ s′ c′ p′ q′ ≡ receiveNumbers mode x lane o s c p q
   unfolding receiveNumbers inNumbers
   is-received none given answer after o′ s′ c′ p′ q′ g r a =
@@ -51,8 +51,8 @@ state-of-requires c κs = search needs
 receive-requires : tie.Need-receive-requires
 receive-requires c κs = search needs
 
-numbers-of-requires : tie.Need-numbers-of-requires
-numbers-of-requires c κs = search needs
+as-numbers-requires : tie.Need-as-numbers-requires
+as-numbers-requires c κs = search needs
 
 same-length : tie.Need-same-length
 same-length c = search needs
@@ -75,9 +75,9 @@ returns-2 c =
     let given = received .before .before .before .before .before .before in
     let a = given .before .before .before .before .before .before .before .before .before .args in
     is-received (a .mode) (a .state) (now (a .lane)) (now (a .octets)) (now (a .statuses)) (now (a .commands)) (now (a .places)) (now (a .patterns)) _ (given .before .before .refusal-of .ensures) (given .before .if1 .left)
-    (given .state-of .result) (received .receive .result) (c .numbers-of .result) _ _ _ _ _ (given .state-of .ensures) (received .receive .ensures) (c .numbers-of .ensures)
+    (given .state-of .result) (received .receive .result) (c .as-numbers .result) _ _ _ _ _ (given .state-of .ensures) (received .receive .ensures) (c .as-numbers .ensures)
 
 pub zaytulobe-receive-spec : {M : Type 1} → statement M
 zaytulobe-receive-spec =
     tie.close
-    (tie.spec refusal-of-requires returns state-of-requires receive-requires numbers-of-requires same-length same-length-2 same-length-3 same-length-4 same-length-5 returns-2)
+    (tie.spec refusal-of-requires returns state-of-requires receive-requires as-numbers-requires same-length same-length-2 same-length-3 same-length-4 same-length-5 returns-2)
