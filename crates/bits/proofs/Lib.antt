@@ -3,6 +3,7 @@ pub mod Choice
 pub mod Xor
 pub mod Additive
 pub mod Numbers
+pub mod Ones
 pub mod Lists
 pub mod Words
 pub mod Tests

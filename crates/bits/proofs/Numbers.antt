@@ -109,6 +109,11 @@ number-whole n v =
     ∙ ap (λ (x : ℕ). v / 2 ^ x % 2 ^ n) {x = n - 0 - n} {y = 0} (omega arith)
     ∙ ap (λ (x : ℕ). x % 2 ^ n) (div-one v)
 
+-- a number of n bits is what its digits write
+pub number-digits : (n v : ℕ) → v < 2 ^ n → number (digit n v) 0 n ≡ v
+unfolding digit
+number-digits n v h = number-whole n v ∙ mod-eq-of-lt h
+
 -- the low bits of a number have its low digits
 pub low-digit : (v w k : ℕ) → k < w → v % 2 ^ w / 2 ^ k % 2 ≡ v / 2 ^ k % 2
 low-digit v w k h =
