@@ -10,7 +10,7 @@
 #define RECEIVE(name) \
     struct zaytulobe_received name(u8 mode, struct zaytulobe_receiver state, const u8 *lane, size lane_length, \
         u8 *octets, size octets_length, u8 *statuses, size statuses_length, u32 *commands, size commands_length, \
-        u16 *places, size places_length, u16 *patterns, size patterns_length)
+        u16 *places, size places_length, u16 *patterns, size patterns_length, u8 *invalid, size invalid_length)
 #define LISTING(name) struct zaytulobe_listed name(const u8 *capture, size capture_length, u8 *text, size text_length)
 
 SEND(plain_send);
@@ -47,18 +47,18 @@ static inline u8 send_refusal(u8 mode, u32 e, struct zaytulobe_sender state, siz
 
 static inline int state_fits(u8 mode, const struct zaytulobe_receiver *state) {
     u32 command = mode == FEC ? 0 : 2 * ZAYTULOBE_COMMAND_FLAG - 1;
-    if (state->waiting > 1 || state->trusted > 1 || state->history >> 58 || state->command > command)
+    if (state->waiting > 1 || state->trusted > 1 || state->history >> 58 || state->command > command || state->invalid > BLOCKS)
         return 0;
     if (state->waiting)
         return 1;
     u8 any = 0;
     for (int k = 0; k < USER_OCTETS; k++)
         any |= state->octets[k];
-    return !any && !state->history && !state->command && !state->trusted;
+    return !any && !state->history && !state->command && !state->trusted && !state->invalid;
 }
 
 static inline u8 receive_refusal(u8 mode, const struct zaytulobe_receiver *state, size lane_length, size octets_length,
-    size statuses_length, size commands_length, size places_length, size patterns_length) {
+    size statuses_length, size commands_length, size places_length, size patterns_length, size invalid_length) {
     if (mode > FEC)
         return ZAYTULOBE_REFUSED_MODE;
     if (!state_fits(mode, state))
@@ -70,7 +70,7 @@ static inline u8 receive_refusal(u8 mode, const struct zaytulobe_receiver *state
         return ZAYTULOBE_REFUSED_COUNT;
     size released = state->waiting || !count ? count : count - 1;
     int room = USER_OCTETS * released <= octets_length && released <= statuses_length && released <= commands_length &&
-        released <= places_length && released <= patterns_length;
+        released <= places_length && released <= patterns_length && released <= invalid_length;
     return room ? ZAYTULOBE_ACCEPTED : ZAYTULOBE_REFUSED_ROOM;
 }
 
@@ -104,7 +104,7 @@ static inline u8 *put_number(u8 *at, u32 number, u8 end) {
 
 /* The listing over any receiver: the text is made aside, and copied where there is room for all of it. */
 static inline struct zaytulobe_listed list(RECEIVE((*receive)), const u8 *capture, size capture_length, u8 *text, size text_length) {
-    static u8 octets[USER_OCTETS * MOST], statuses[MOST], made[ZAYTULOBE_LONGEST_TEXT];
+    static u8 octets[USER_OCTETS * MOST], statuses[MOST], invalid[MOST], made[ZAYTULOBE_LONGEST_TEXT];
     static u32 commands[MOST];
     static u16 places[MOST], patterns[MOST];
     struct zaytulobe_listed listed = {capture_refusal(capture, capture_length), 0};
@@ -112,7 +112,7 @@ static inline struct zaytulobe_listed list(RECEIVE((*receive)), const u8 *captur
         return listed;
     struct zaytulobe_receiver fresh = {0};
     size count = receive(capture[4], fresh, capture + HEAD, capture_length - HEAD, octets, sizeof octets, statuses, MOST,
-        commands, MOST, places, MOST, patterns, MOST).count;
+        commands, MOST, places, MOST, patterns, MOST, invalid, MOST).count;
     size name = capture[4] == FEC ? 4 : 6;
     memcpy(made, capture[4] == FEC ? "fec " : "crc12 ", name);
     u8 *at = put_number(made + name, (u32)capture[5] << 8 | capture[6], ' ');

@@ -68,6 +68,7 @@ static struct results {
     u8 lane[LANE_OCTETS * MOST], octets[USER_OCTETS * MOST], statuses[MOST], waiting[USER_OCTETS], text[ZAYTULOBE_LONGEST_TEXT];
     u32 commands[MOST];
     u16 places[MOST], patterns[MOST];
+    u8 invalid[MOST];
 } results[LIBRARY_COUNT];
 
 static void flip_data(size multiblock, size position) {
@@ -118,7 +119,7 @@ static void prepare(const struct made *made) {
     struct zaytulobe_receiver none = {0};
     struct results *to = &results[0];
     before = zaytulobe_receive(made->mode, none, lane, LANE_OCTETS, to->octets, 0, to->statuses, 0, to->commands, 0, to->places, 0,
-        to->patterns, 0).state;
+        to->patterns, 0, to->invalid, 0).state;
     size length = LANE_OCTETS * n;
     u8 head[HEAD] = {0, 0, 0, 3, made->mode, 0, E, 0, (u8)(length >> 16), (u8)(length >> 8), (u8)length};
     memcpy(capture, head, HEAD);
@@ -136,9 +137,10 @@ static void turn(const struct made *made, const struct library *library, struct 
     } else if (made->work == RECEIVING) {
         struct zaytulobe_received received = library->receive(
             made->mode, before, lane + LANE_OCTETS, LANE_OCTETS * n, to->octets, sizeof to->octets, to->statuses, MOST,
-            to->commands, MOST, to->places, MOST, to->patterns, MOST);
+            to->commands, MOST, to->places, MOST, to->patterns, MOST, to->invalid, MOST);
         struct zaytulobe_receiver *state = &received.state;
-        u64 numbers[6] = {received.refusal, received.count, state->history, state->command, state->waiting, state->trusted};
+        u64 numbers[7] = {
+            received.refusal, received.count, state->history, state->command, state->waiting, state->trusted, state->invalid};
         memcpy(to->numbers, numbers, sizeof numbers);
         memcpy(to->waiting, state->octets, USER_OCTETS);
     } else {

@@ -87,25 +87,26 @@ SEND(plain_send) {
 
 struct heard {
     u32 parity, command;
-    u8 octets[USER_OCTETS];
+    u8 octets[USER_OCTETS], invalid;
 };
 
 static void hear(u8 mode, const u8 *lane, struct heard *heard) {
-    u32 invalid = 0;
-    heard->parity = heard->command = 0;
+    u32 flagged = 0;
+    heard->parity = heard->command = heard->invalid = 0;
     for (size block = 0; block < BLOCKS; block++) {
         u32 first = bit_at(lane, BLOCK_BITS * block), second = bit_at(lane, BLOCK_BITS * block + 1), carried = !first && second;
         u8 field = LAYOUTS[mode][block];
+        heard->invalid += first == second;
         if (field < COMMAND) {
             heard->parity |= carried << field;
         } else if (field < MARK) {
             heard->command |= carried << (field - COMMAND);
-            invalid |= first == second;
+            flagged |= first == second;
         }
         for (size bit = 0; bit < 64; bit++)
             put_bit(heard->octets, 64 * block + bit, bit_at(lane, BLOCK_BITS * block + 2 + bit));
     }
-    heard->command += invalid * ZAYTULOBE_COMMAND_FLAG;
+    heard->command += flagged * ZAYTULOBE_COMMAND_FLAG;
 }
 
 static int find_burst(u32 difference, u16 *place, u16 *pattern) {
@@ -144,13 +145,14 @@ static u64 descramble(const u8 *octets, u64 history, u8 *out) {
 static void await(struct zaytulobe_receiver *state, const struct heard *heard) {
     state->waiting = 1;
     state->command = heard->command;
+    state->invalid = heard->invalid;
     memcpy(state->octets, heard->octets, USER_OCTETS);
 }
 
 RECEIVE(plain_receive) {
     struct zaytulobe_received received = {0, 0, state};
     received.refusal = receive_refusal(mode, &state, lane_length, octets_length, statuses_length, commands_length, places_length,
-        patterns_length);
+        patterns_length, invalid_length);
     if (received.refusal)
         return received;
     struct zaytulobe_receiver *now = &received.state;
@@ -170,7 +172,8 @@ RECEIVE(plain_receive) {
             statuses[released] = now->trusted ? status : status + ZAYTULOBE_UNTRUSTED;
             commands[released] = now->command;
             places[released] = place;
-            patterns[released++] = pattern;
+            patterns[released] = pattern;
+            invalid[released++] = now->invalid;
             now->trusted = status != ZAYTULOBE_FAILED;
         }
         await(now, &heard);

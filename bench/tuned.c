@@ -170,19 +170,21 @@ struct outputs {
     u8 *octets, *statuses;
     u32 *commands;
     u16 *places, *patterns;
+    u8 *invalid;
 };
 
 /* The waiting multiblock stays in 32 words from turn to turn; two sets of words change places. */
 static inline size receive_all(u8 mode, struct zaytulobe_receiver *state, const u8 *lane, size count, struct outputs out) {
     u64 both[2][BLOCKS], *words = both[0], *next = both[1], history = state->history;
     u32 first, second, command = state->command, trusted = state->trusted;
+    u8 invalid = state->invalid;
     size released = 0;
     if (state->waiting)
         for (int k = 0; k < BLOCKS; k++)
             words[k] = load(state->octets + 8 * k);
     for (size turn = 0; turn < count; turn++, lane += LANE_OCTETS) {
         hear(lane, next, &first, &second);
-        u32 sync = ~first & second;
+        u32 sync = ~first & second, equal = ~(first ^ second);
         if (turn || state->waiting) {
             u32 difference = remainder_of(mode, words) ^ parity_in(mode, sync), status = ZAYTULOBE_AGREES;
             u16 place = 0, pattern = 0;
@@ -199,10 +201,12 @@ static inline size receive_all(u8 mode, struct zaytulobe_receiver *state, const 
             out.statuses[released] = (u8)(trusted ? status : status + ZAYTULOBE_UNTRUSTED);
             out.commands[released] = command;
             out.places[released] = place;
-            out.patterns[released++] = pattern;
+            out.patterns[released] = pattern;
+            out.invalid[released++] = invalid;
             trusted = status != ZAYTULOBE_FAILED;
         }
-        command = command_in(mode, sync) + (command_in(mode, ~(first ^ second)) ? ZAYTULOBE_COMMAND_FLAG : 0);
+        command = command_in(mode, sync) + (command_in(mode, equal) ? ZAYTULOBE_COMMAND_FLAG : 0);
+        invalid = (u8)__builtin_popcount(equal);
         u64 *were = words;
         words = next;
         next = were;
@@ -211,6 +215,7 @@ static inline size receive_all(u8 mode, struct zaytulobe_receiver *state, const 
         store(state->octets + 8 * k, words[k]);
     state->history = history & ((1ul << 58) - 1);
     state->command = command;
+    state->invalid = invalid;
     state->trusted = (u8)trusted;
     state->waiting = 1;
     return released;
@@ -219,10 +224,10 @@ static inline size receive_all(u8 mode, struct zaytulobe_receiver *state, const 
 RECEIVE(tuned_receive) {
     struct zaytulobe_received received = {0, 0, state};
     received.refusal = receive_refusal(mode, &state, lane_length, octets_length, statuses_length, commands_length, places_length,
-        patterns_length);
+        patterns_length, invalid_length);
     if (received.refusal || lane_length == 0)
         return received;
-    struct outputs out = {octets, statuses, commands, places, patterns};
+    struct outputs out = {octets, statuses, commands, places, patterns, invalid};
     received.count = mode == FEC ? receive_all(FEC, &received.state, lane, lane_length / LANE_OCTETS, out)
                                  : receive_all(CRC12, &received.state, lane, lane_length / LANE_OCTETS, out);
     return received;

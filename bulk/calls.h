@@ -72,6 +72,12 @@ static void send_call(u64 seed) {
         sent.state.number, digest_of(lane, room));
 }
 
+static u8 draw_invalid_count(void) {
+    static const u8 edges[4] = {0, 32, 33, 255};
+    u8 any = (u8)draw(BLOCKS + 1);
+    return draw(4) == 0 ? edges[draw(4)] : any;
+}
+
 static struct zaytulobe_receiver draw_any_receiver(u8 mode) {
     static const u8 waits[8] = {0, 0, 0, 1, 1, 1, 1, 1};
     struct zaytulobe_receiver state;
@@ -83,6 +89,7 @@ static struct zaytulobe_receiver draw_any_receiver(u8 mode) {
     u32 command = mode == CRC12 ? (u32)draw(2 * ZAYTULOBE_COMMAND_FLAG) : 0;
     state.command = or_more(command, mode == CRC12 ? 2 * ZAYTULOBE_COMMAND_FLAG : 1);
     draw_octets(state.octets, USER_OCTETS);
+    state.invalid = draw_invalid_count();
     return state;
 }
 
@@ -91,31 +98,36 @@ static struct zaytulobe_receiver draw_receiver(u8 mode) {
     memset(&none, 0, sizeof none);
     if (any.waiting != 0)
         return any;
-    switch (draw(8)) {
+    switch (draw(12)) {
     case 0: return any;
     case 1: none.history = any.history; break;
     case 2: none.command = any.command; break;
     case 3: none.trusted = any.trusted; break;
     case 4: for (int k = 0; k < USER_OCTETS; k++) none.octets[k] = any.octets[k]; break;
+    case 5: none.invalid = any.invalid; break;
     }
     return none;
 }
 
-static u8 octets[USER_OCTETS * MOST], statuses[MOST + 2];
+static u8 octets[USER_OCTETS * MOST], statuses[MOST + 2], invalid[MOST + 2];
 static u32 got_commands[MOST + 2];
 static u16 places[MOST + 2], patterns[MOST + 2];
 
-/* The rooms of octets, statuses, commands, places and patterns. */
+/* The octets, and the five lists. */
+enum { LENT = 6 };
+
+/* The rooms of octets, statuses, commands, places, patterns and invalid headers. */
 static void draw_lent(size *rooms, size count) {
     rooms[0] = USER_OCTETS * count + draw(16);
-    for (int k = 1; k < 5; k++)
+    for (int k = 1; k < LENT; k++)
         rooms[k] = count + draw(3);
-    if (rarely()) {
-        size which = draw(5), whole = which == 0 ? USER_OCTETS * count : count;
+    if (draw(8) == 0) {
+        size which = draw(LENT), whole = which == 0 ? USER_OCTETS * count : count;
         rooms[which] = whole == 0 ? 0 : whole - 1;
     }
     memset(octets, BEFORE, rooms[0]);
     memset(statuses, BEFORE, rooms[1]);
+    memset(invalid, BEFORE, rooms[5]);
     for (size k = 0; k < MOST + 2; k++) {
         got_commands[k] = BEFORE;
         places[k] = patterns[k] = BEFORE;
@@ -130,21 +142,21 @@ static u64 lent_digest(const size *rooms) {
         digest = with_number(digest, places[k]);
     for (size k = 0; k < rooms[4]; k++)
         digest = with_number(digest, patterns[k]);
-    return digest;
+    return with_octets(digest, invalid, rooms[5]);
 }
 
 static void receive_call(u64 seed) {
-    size rooms[5];
+    size rooms[LENT];
     u8 mode = MODES[draw(8)];
     struct zaytulobe_receiver state = draw_receiver(mode);
     size count = draw_count();
     size lane_length = draw_parts(lane, LANE_OCTETS, count);
     draw_lent(rooms, count);
     struct zaytulobe_received received = zaytulobe_receive(mode, state, lane, lane_length, octets, rooms[0], statuses, rooms[1],
-        got_commands, rooms[2], places, rooms[3], patterns, rooms[4]);
+        got_commands, rooms[2], places, rooms[3], patterns, rooms[4], invalid, rooms[5]);
     state = received.state;
-    printf("%lu receive %d %lu %d %lu %d %u %016lx %016lx\n", seed, received.refusal, received.count, state.waiting,
-        state.history, state.trusted, state.command, digest_of(state.octets, USER_OCTETS), lent_digest(rooms));
+    printf("%lu receive %d %lu %d %lu %d %u %d %016lx %016lx\n", seed, received.refusal, received.count, state.waiting,
+        state.history, state.trusted, state.command, state.invalid, digest_of(state.octets, USER_OCTETS), lent_digest(rooms));
 }
 
 static u32 draw_headers(u32 seen) {

@@ -55,7 +55,7 @@ static size receive_calls(struct zaytulobe_receiver *state) {
         size n = calls[k];
         struct zaytulobe_received received = zaytulobe_receive(
             drawn.mode, *state, lane + LANE_OCTETS * from, LANE_OCTETS * n, octets + USER_OCTETS * count, USER_OCTETS * n,
-            statuses + count, n, got_commands + count, n, places + count, n, patterns + count, n);
+            statuses + count, n, got_commands + count, n, places + count, n, patterns + count, n, invalid + count, n);
         *state = received.state;
         count += received.count;
     }
@@ -63,18 +63,18 @@ static size receive_calls(struct zaytulobe_receiver *state) {
 }
 
 static u64 received_digest(const struct zaytulobe_receiver *state, size count) {
-    size rooms[5] = {USER_OCTETS * count, count, count, count, count};
+    size rooms[LENT] = {USER_OCTETS * count, count, count, count, count, count};
     u64 digest = with_octets(lent_digest(rooms), state->octets, USER_OCTETS);
     digest = with_number(with_number(digest, state->history), state->command);
-    return with_octet(with_octet(digest, state->waiting), state->trusted);
+    return with_octet(with_octet(with_octet(digest, state->waiting), state->trusted), state->invalid);
 }
 
 static void print_received(const struct zaytulobe_receiver *state, size count) {
     for (size k = 0; k < count; k++)
-        printf(" %d/%d/%d/%u", statuses[k], places[k], patterns[k], got_commands[k]);
+        printf(" %d/%d/%d/%u/%d", statuses[k], places[k], patterns[k], got_commands[k], invalid[k]);
     struct zaytulobe_run run = zaytulobe_longest_run(octets, USER_OCTETS * count, statuses, count);
-    printf(" %016lx %d %lu %d %u %016lx %lu %lu", digest_of(octets, USER_OCTETS * count), state->waiting, state->history,
-        state->trusted, state->command, digest_of(state->octets, USER_OCTETS), run.start, run.count);
+    printf(" %016lx %d %lu %d %u %d %016lx %lu %lu", digest_of(octets, USER_OCTETS * count), state->waiting, state->history,
+        state->trusted, state->command, state->invalid, digest_of(state->octets, USER_OCTETS), run.start, run.count);
 }
 
 static void damaged_line(u64 seed) {

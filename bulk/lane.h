@@ -4,7 +4,7 @@
 
 #include "draw.h"
 
-enum { MOST_CALLS = 64, LONG_BURST = 14, CLEAR_BITS = 4224 };
+enum { MOST_CALLS = 64, LONG_BURST = 14, LONG_STRETCH = 96, CLEAR_BITS = 4224 };
 
 static struct {
     u8 mode;
@@ -78,13 +78,41 @@ static void draw_far_bursts(size at_most, size lane_bits) {
     }
 }
 
-static void draw_header(void) {
-    size bit = BLOCK_BITS * draw(BLOCKS * drawn.multiblocks);
+/* The header of a block becomes 11 or 00. */
+static void put_invalid(size block, int ones) {
+    size bit = BLOCK_BITS * block;
     u8 both = (u8)(192 >> bit % 8);
-    if (draw(2) == 1)
+    if (ones)
         lane[bit / 8] |= both;
     else
         lane[bit / 8] &= (u8)~both;
+}
+
+static void draw_invalid(size block) {
+    put_invalid(block, draw(2) == 1);
+}
+
+static void draw_header(size blocks) {
+    size block = draw(blocks);
+    draw_invalid(block);
+}
+
+static void draw_stretch(size blocks) {
+    size first = draw(blocks);
+    size end = first + 1 + draw(LONG_STRETCH);
+    size pair = draw(3);
+    for (size block = first; block < end && block < blocks; block++)
+        if (pair == 2)
+            draw_invalid(block);
+        else
+            put_invalid(block, pair == 1);
+}
+
+static void draw_noise(size blocks) {
+    size noise = 1 + draw(8);
+    for (size block = 0; block < blocks; block++)
+        if (draw(noise) == 0)
+            draw_invalid(block);
 }
 
 static void draw_octet(void) {
@@ -107,14 +135,17 @@ static void flip_parities(void) {
 
 static void damage(void) {
     size limit = drawn.mode == FEC ? 9 : 12, lane_bits = MULTIBLOCK_BITS * drawn.multiblocks;
+    size blocks = BLOCKS * drawn.multiblocks;
     switch (drawn.kind) {
     case 1: draw_burst(limit, lane_bits); break;
     case 2: for (size left = 1 + draw(4); left > 0; left--) draw_burst(LONG_BURST, lane_bits); break;
-    case 3: for (size left = 1 + draw(8); left > 0; left--) draw_header(); break;
+    case 3: for (size left = 1 + draw(8); left > 0; left--) draw_header(blocks); break;
     case 4: for (size left = 1 + draw(64); left > 0; left--) draw_octet(); break;
     case 5: flip_parities(); break;
     case 6: draw_far_bursts(limit, lane_bits); break;
     case 7: draw_octets(lane, LANE_OCTETS * drawn.multiblocks); break;
+    case 8: for (size left = 1 + draw(3); left > 0; left--) draw_stretch(blocks); break;
+    case 9: draw_noise(blocks); break;
     }
 }
 
@@ -122,7 +153,7 @@ static void draw_damaged(void) {
     draw_settings();
     draw_input(2 + draw(6));
     send_input();
-    drawn.kind = draw(8);
+    drawn.kind = draw(10);
     damage();
 }
 

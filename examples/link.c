@@ -1,5 +1,6 @@
-/* Sends four multiblocks in FEC mode, flips a burst of nine lane bits, receives what is left, and prints what came back;
-   then steps the locks by the lane's headers, and lists the lane as a capture. Compiles as C and as C++. */
+/* Sends four multiblocks in FEC mode, flips a burst of nine lane bits, the first of them in a header, receives what is left,
+   and prints what came back; then steps the locks by the lane's headers, and lists the lane as a capture. Compiles as C and as
+   C++. */
 #include "zaytulobe.h"
 
 #ifdef __cplusplus
@@ -11,7 +12,7 @@ void *memcpy(void *to, const void *from, zaytulobe_size count);
 }
 #endif
 
-enum { MODE = ZAYTULOBE_FEC, E = 1, MULTIBLOCKS = 4, FIRST_BIT = 3000, BITS = 9 };
+enum { MODE = ZAYTULOBE_FEC, E = 1, MULTIBLOCKS = 4, FIRST_BIT = 6007, BITS = 9 };
 enum { USER = ZAYTULOBE_USER_OCTETS * MULTIBLOCKS, LANE = ZAYTULOBE_LANE_OCTETS(MODE) * MULTIBLOCKS };
 
 static zaytulobe_u8 user[USER], lane[LANE], octets[USER];
@@ -31,16 +32,17 @@ static void damage(void) {
 }
 
 static void receive(void) {
-    zaytulobe_u8 statuses[MULTIBLOCKS];
+    zaytulobe_u8 statuses[MULTIBLOCKS], invalid[MULTIBLOCKS];
     zaytulobe_u32 commands[MULTIBLOCKS];
     zaytulobe_u16 places[MULTIBLOCKS], patterns[MULTIBLOCKS];
     struct zaytulobe_received received = zaytulobe_receive(
         MODE, zaytulobe_fresh_receiver(), lane, LANE, octets, USER, statuses, MULTIBLOCKS, commands, MULTIBLOCKS,
-        places, MULTIBLOCKS, patterns, MULTIBLOCKS);
+        places, MULTIBLOCKS, patterns, MULTIBLOCKS, invalid, MULTIBLOCKS);
     zaytulobe_size count = received.count, come = ZAYTULOBE_USER_OCTETS * count, same = 0;
     printf("refusal %d, released %lu, waiting %d\n", received.refusal, count, received.state.waiting);
     for (zaytulobe_size k = 0; k < count; k++)
-        printf("multiblock %lu: status %d, place %d, pattern %d\n", k, statuses[k], places[k], patterns[k]);
+        printf("multiblock %lu: status %d, place %d, pattern %d, invalid headers %d\n", k, statuses[k], places[k], patterns[k],
+            invalid[k]);
     for (zaytulobe_size k = 0; k < come; k++)
         same += octets[k] == user[k];
     printf("%lu of %lu octets as they were sent\n", same, come);

@@ -102,13 +102,15 @@ struct zaytulobe_sent {
 };
 
 /* The history before the multiblock that waits; its command, with the flag added if one of its headers was invalid; whether one
-   waits, 0 or 1; whether the history is trusted, 0 or 1; its scrambled octets. */
+   waits, 0 or 1; whether the history is trusted, 0 or 1; its scrambled octets; how many of its 32 headers were invalid (00 or
+   11), 0 to 32, and 0 if none waits. */
 struct zaytulobe_receiver {
     zaytulobe_u64 history;
     zaytulobe_u32 command;
     zaytulobe_u8 waiting;
     zaytulobe_u8 trusted;
     zaytulobe_u8 octets[ZAYTULOBE_USER_OCTETS];
+    zaytulobe_u8 invalid;
 };
 
 /* A refusal, or 0 with the multiblocks released; the state for the next call. */
@@ -176,8 +178,9 @@ struct zaytulobe_sent zaytulobe_send(
 struct zaytulobe_receiver zaytulobe_fresh_receiver(void);
 
 /* Receives the multiblocks of the lane, 264 octets each. A multiblock is released when the next has come: release k of this
-   call writes 256 octets from 256 k on, and place k of each list: its status, its command, and the place and pattern of the burst
-   that was flipped back, or 0 and 0. All else keeps its values. Refused by 1, 3, 4, 5 or 7. */
+   call writes 256 octets from 256 k on, and place k of each list: its status; its command; the place and pattern of the burst
+   that was flipped back, or 0 and 0; and how many of its own 32 headers were invalid, 0 to 32. All else keeps its values. The
+   state has the number of the one that waits then. Refused by 1, 3, 4, 5 or 7. */
 struct zaytulobe_received zaytulobe_receive(
     zaytulobe_u8 mode, struct zaytulobe_receiver state,
     const zaytulobe_u8 *lane, zaytulobe_size lane_length,
@@ -185,7 +188,8 @@ struct zaytulobe_received zaytulobe_receive(
     zaytulobe_u8 *statuses, zaytulobe_size statuses_length,
     zaytulobe_u32 *commands, zaytulobe_size commands_length,
     zaytulobe_u16 *places, zaytulobe_size places_length,
-    zaytulobe_u16 *patterns, zaytulobe_size patterns_length);
+    zaytulobe_u16 *patterns, zaytulobe_size patterns_length,
+    zaytulobe_u8 *invalid, zaytulobe_size invalid_length);
 
 /* The longest run of multiblocks with status 0 or 1, the earliest if several tie: its octets are the 256 count from
    256 start on. 0 from 0 if there is none. Refused by 4. */
@@ -240,6 +244,7 @@ ZAYTULOBE_FIELD(receiver, command, 8, 4);
 ZAYTULOBE_FIELD(receiver, waiting, 12, 1);
 ZAYTULOBE_FIELD(receiver, trusted, 13, 1);
 ZAYTULOBE_FIELD(receiver, octets, 14, 256);
+ZAYTULOBE_FIELD(receiver, invalid, 270, 1);
 
 ZAYTULOBE_STRUCT(received, 288);
 ZAYTULOBE_FIELD(received, refusal, 0, 1);

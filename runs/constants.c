@@ -22,8 +22,9 @@ static int sent_multiblocks(u8 mode, size count) {
 }
 
 static int received(u8 mode, size octets) {
-    return zaytulobe_receive(mode, zaytulobe_fresh_receiver(), lane, octets, out.octets, sizeof out.octets, out.statuses,
-        LONGEST_CALL, out.commands, LONGEST_CALL, out.places, LONGEST_CALL, out.patterns, LONGEST_CALL).refusal;
+    size room = LONGEST_CALL;
+    return zaytulobe_receive(mode, zaytulobe_fresh_receiver(), lane, octets, out.octets, sizeof out.octets, out.statuses, room,
+        out.commands, room, out.places, room, out.patterns, room, out.invalid, room).refusal;
 }
 
 /* A capture of so many octets whose counts are right, and its listing in a text of so many. */

@@ -24,6 +24,7 @@ struct releases {
     u32 commands[LONGEST_CALL];
     u16 places[LONGEST_CALL];
     u16 patterns[LONGEST_CALL];
+    u8 invalid[LONGEST_CALL];
 };
 
 static inline const char *name_of(u8 mode) {
@@ -67,6 +68,14 @@ static inline void flip_bit(size bit) {
     lane[bit / 8] ^= (u8)(128 >> bit % 8);
 }
 
+/* The header of a block of a multiblock gets its two bits: the first times 2, plus the second. */
+static inline void put_header(size multiblock, size block, u8 bits) {
+    size place = MULTIBLOCK_BITS * multiblock + BLOCK_BITS * block;
+    for (size k = 0; k < 2; k++)
+        if (lane_bit(place + k) != (bits >> (1 - k) & 1))
+            flip_bit(place + k);
+}
+
 /* Where a codeword position stands on the lane: a data bit behind its block's header; a parity bit is carried by both bits of
    a header of the next multiblock, and this is the first of them. */
 static inline size place_of(u8 mode, size multiblock, size position) {
@@ -90,7 +99,8 @@ static inline struct zaytulobe_received receive(
     size room = LONGEST_CALL - at;
     return zaytulobe_receive(
         mode, state, lane + LANE_OCTETS * first, LANE_OCTETS * count, to->octets + USER_OCTETS * at, USER_OCTETS * room,
-        to->statuses + at, room, to->commands + at, room, to->places + at, room, to->patterns + at, room);
+        to->statuses + at, room, to->commands + at, room, to->places + at, room, to->patterns + at, room,
+        to->invalid + at, room);
 }
 
 static inline void print_span(const char *before, size first, size last) {

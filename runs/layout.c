@@ -55,7 +55,7 @@ static void run_sent(void) {
 
 static int same_receiver(struct zaytulobe_receiver one, struct zaytulobe_receiver other) {
     return one.history == other.history && one.command == other.command && one.waiting == other.waiting
-        && one.trusted == other.trusted && memcmp(one.octets, other.octets, USER_OCTETS) == 0;
+        && one.trusted == other.trusted && memcmp(one.octets, other.octets, USER_OCTETS) == 0 && one.invalid == other.invalid;
 }
 
 static void try_receiver(const char *field, u64 highest, struct zaytulobe_receiver fits, struct zaytulobe_receiver next) {
@@ -67,9 +67,11 @@ static void try_receiver(const char *field, u64 highest, struct zaytulobe_receiv
 /* With one waiting each field may have any value up to its highest. */
 static void run_receiver(void) {
     u64 bits58 = (1UL << 58) - 1;
-    struct zaytulobe_receiver fits[4] = {{.history = bits58}, {.command = 255}, {.waiting = 1}, {.trusted = 1}};
-    struct zaytulobe_receiver next[4] = {{.history = bits58 + 1}, {.command = 256}, {.waiting = 2}, {.trusted = 2}};
-    for (int k = 0; k < 4; k++) {
+    struct zaytulobe_receiver fits[5] = {
+        {.history = bits58}, {.command = 255}, {.waiting = 1}, {.trusted = 1}, {.invalid = 32}};
+    struct zaytulobe_receiver next[5] = {
+        {.history = bits58 + 1}, {.command = 256}, {.waiting = 2}, {.trusted = 2}, {.invalid = 33}};
+    for (int k = 0; k < 5; k++) {
         fits[k].waiting = 1;
         next[k].waiting = k == 2 ? 2 : 1;
     }
@@ -77,6 +79,7 @@ static void run_receiver(void) {
     try_receiver("receiver.command, CRC-12", 255, fits[1], next[1]);
     try_receiver("receiver.waiting", 1, fits[2], next[2]);
     try_receiver("receiver.trusted", 1, fits[3], next[3]);
+    try_receiver("receiver.invalid", 32, fits[4], next[4]);
 }
 
 /* The two flags by what they do. Of 256 octets all but one 0: the release has its first octet that isn't 0 there. */
@@ -106,23 +109,30 @@ static void run_flags_and_octets(void) {
     printf("receiver.octets, one waiting: one of them 1 is the first not 0 in the release: %lu of %d\n", first, USER_OCTETS);
 }
 
-/* Each number of what comes back from receiving three multiblocks is worked from the lane. */
+/* Each number of what comes back from receiving three multiblocks is worked from the lane; the last has three invalid headers
+   that carry neither parity nor command. */
 static void run_received(void) {
     make_lane(CRC12, 4, 3);
+    put_header(2, 19, 0);
+    put_header(2, 27, 3);
+    put_header(2, 31, 0);
     struct zaytulobe_received received = receive(CRC12, zaytulobe_fresh_receiver(), 0, 3, &out, 0);
     u64 history = 0;
-    size wrong = 0;
+    size wrong = 0, invalid = 0;
     for (size bit = 2 * MULTIBLOCK_BITS - 58; bit < 2 * MULTIBLOCK_BITS; bit++)
         history = 2 * history + lane_bit(bit);
     for (size position = 0; position < DATA_BITS; position++)
         wrong += (received.state.octets[position / 8] >> (7 - position % 8) & 1) != lane_bit(place_of(CRC12, 2, position));
+    for (size bit = 2 * MULTIBLOCK_BITS; bit < 3 * MULTIBLOCK_BITS; bit += BLOCK_BITS)
+        invalid += lane_bit(bit) == lane_bit(bit + 1);
     printf("received: refusal %d, count %lu; state: ", received.refusal, received.count);
     printf("history %s, ", received.state.history == history ? "the last 58 bits of the released" : "OTHERS");
     printf("command %u of %u sent, ", received.state.command, sent_commands[2]);
     printf("waiting %d, trusted %d, ", received.state.waiting, received.state.trusted);
-    printf("octets %s\n", wrong == 0 ? "those on the lane" : "OTHERS");
+    printf("octets %s, ", wrong == 0 ? "those on the lane" : "OTHERS");
+    printf("invalid %d of %lu on the lane\n", received.state.invalid, invalid);
     received = zaytulobe_receive(CRC12, zaytulobe_fresh_receiver(), lane, 1, out.octets, 0, out.statuses, 0, out.commands, 0,
-        out.places, 0, out.patterns, 0);
+        out.places, 0, out.patterns, 0, out.invalid, 0);
     printf("received of 1 lane octet: refusal %d, count %lu\n", received.refusal, received.count);
 }
 

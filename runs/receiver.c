@@ -1,6 +1,6 @@
 /* The receiver at its edges, and the longest run: document 01, "What the receiver releases", "Numbers of refusal" and the
-   last lines of "The dozen to prove". A line says what was tried and what came out (place and pattern where not both are 0);
-   receiver.txt has the lines expected. */
+   last lines of "The dozen to prove"; of invalid headers document 02, request 1. A line says what was tried and what came out
+   (place and pattern where not both are 0); receiver.txt has the lines expected. */
 #include "lane.h"
 
 static struct releases out, parts;
@@ -48,7 +48,7 @@ static void run_bursts_crc12(void) {
 
 static int same_state(struct zaytulobe_receiver one, struct zaytulobe_receiver other) {
     return one.history == other.history && one.command == other.command && one.waiting == other.waiting
-        && one.trusted == other.trusted && memcmp(one.octets, other.octets, USER_OCTETS) == 0;
+        && one.trusted == other.trusted && memcmp(one.octets, other.octets, USER_OCTETS) == 0 && one.invalid == other.invalid;
 }
 
 /* A call with all that a caller chooses: the mode, the state, where the lane begins, and each length. */
@@ -56,14 +56,14 @@ struct call {
     u8 mode;
     struct zaytulobe_receiver state;
     const u8 *from;
-    size lane, octets, statuses, commands, places, patterns;
+    size lane, octets, statuses, commands, places, patterns, invalid;
 };
 
 /* So many multiblocks, with just enough room: from the lane's start, or from its multiblock 1 on if one waits. */
 static struct call call_of(u8 mode, struct zaytulobe_receiver state, size multiblocks) {
     size count = state.waiting ? multiblocks : multiblocks ? multiblocks - 1 : 0;
     const u8 *from = state.waiting ? lane + LANE_OCTETS : lane;
-    struct call call = {mode, state, from, LANE_OCTETS * multiblocks, USER_OCTETS * count, count, count, count, count};
+    struct call call = {mode, state, from, LANE_OCTETS * multiblocks, USER_OCTETS * count, count, count, count, count, count};
     return call;
 }
 
@@ -73,7 +73,7 @@ static int untouched_from(size count) {
             return 0;
     for (size k = count; k < LONGEST_CALL; k++)
         if (out.statuses[k] != UNTOUCHED || out.commands[k] != UNTOUCHED * 0x1010101u
-            || out.places[k] != UNTOUCHED * 0x101 || out.patterns[k] != UNTOUCHED * 0x101)
+            || out.places[k] != UNTOUCHED * 0x101 || out.patterns[k] != UNTOUCHED * 0x101 || out.invalid[k] != UNTOUCHED)
             return 0;
     return 1;
 }
@@ -82,7 +82,7 @@ static struct zaytulobe_receiver try_call(const char *label, struct call call) {
     memset(&out, UNTOUCHED, sizeof out);
     struct zaytulobe_received received = zaytulobe_receive(
         call.mode, call.state, call.from, call.lane, out.octets, call.octets, out.statuses, call.statuses,
-        out.commands, call.commands, out.places, call.places, out.patterns, call.patterns);
+        out.commands, call.commands, out.places, call.places, out.patterns, call.patterns, out.invalid, call.invalid);
     printf("%s: ", label);
     printf(received.refusal ? "refused %d, " : "accepted, ", received.refusal);
     printf("count %lu, ", received.count);
@@ -91,14 +91,21 @@ static struct zaytulobe_receiver try_call(const char *label, struct call call) {
     return received.state;
 }
 
-/* How many releases have the octets, the status and the command of a clean lane. */
+/* How many releases have the octets, the status, the command and the headers of a clean lane. */
 static void print_clean(size count) {
     size clean = 0;
     for (size k = 0; k < count; k++)
         clean += memcmp(out.octets + USER_OCTETS * k, user + USER_OCTETS * k, USER_OCTETS) == 0
             && out.commands[k] == sent_commands[k] && out.statuses[k] == (k == 0 ? ZAYTULOBE_UNTRUSTED : ZAYTULOBE_AGREES)
-            && out.places[k] == 0 && out.patterns[k] == 0;
-    printf("  octets and command as sent, status 4 of the first and 0 of the others: %lu of %lu\n", clean, count);
+            && out.places[k] == 0 && out.patterns[k] == 0 && out.invalid[k] == 0;
+    printf("  octets and command as sent, status 4 of the first and 0 of the others, no invalid header: ");
+    printf("%lu of %lu\n", clean, count);
+}
+
+static void print_invalid(const struct releases *from, size count) {
+    printf("invalid headers");
+    for (size k = 0; k < count; k++)
+        printf(" %d", from->invalid[k]);
 }
 
 static void run_counts(u8 mode) {
@@ -153,6 +160,25 @@ static void run_waiting_states(void) {
     try_waiting("FEC, one waiting, trust given as 2", FEC, 0, 0, 2);
 }
 
+/* A state with one waiting that had so many invalid headers, and the multiblock after it. */
+static struct call with_invalid(u8 mode, u8 invalid) {
+    struct zaytulobe_receiver state = {.waiting = 1, .invalid = invalid};
+    return call_of(mode, state, 1);
+}
+
+static void run_invalid_states(void) {
+    struct zaytulobe_receiver marked = {.waiting = 1, .command = ZAYTULOBE_COMMAND_FLAG}, empty = {.invalid = 1};
+    try_call("CRC-12, one waiting, 1 invalid header", with_invalid(CRC12, 1));
+    try_call("CRC-12, one waiting, 32 invalid headers", with_invalid(CRC12, 32));
+    try_call("CRC-12, one waiting, 33 invalid headers", with_invalid(CRC12, 33));
+    try_call("CRC-12, one waiting, 255 invalid headers", with_invalid(CRC12, 255));
+    try_call("FEC, one waiting, 32 invalid headers", with_invalid(FEC, 32));
+    try_call("FEC, one waiting, 33 invalid headers", with_invalid(FEC, 33));
+    try_call("CRC-12, one waiting, command 128 and no invalid header", call_of(CRC12, marked, 1));
+    try_call("nothing waiting, 1 invalid header", call_of(CRC12, empty, 1));
+    try_call("nothing waiting, 1 invalid header, no lane octets", call_of(CRC12, empty, 0));
+}
+
 static void run_empty_states(void) {
     struct zaytulobe_receiver history = {.history = 1}, command = {.command = 1}, trusted = {.trusted = 1};
     struct zaytulobe_receiver first = {.octets = {1}}, last = {.octets = {[255] = 1}}, flag = {.waiting = 2};
@@ -193,9 +219,29 @@ static void run_room(void) {
     try_call("3 multiblocks, fresh, room for 1 place", call);
     call = full, call.patterns -= 1;
     try_call("3 multiblocks, fresh, room for 1 pattern", call);
-    call = full, call.statuses += 1, call.commands += 2, call.places += 3, call.patterns += 4;
+    call = full, call.invalid -= 1;
+    try_call("3 multiblocks, fresh, room for 1 number of invalid headers", call);
+    call = full, call.statuses += 1, call.commands += 2, call.places += 3, call.patterns += 4, call.invalid += 5;
     try_call("3 multiblocks, fresh, more room in each list", call);
     try_call("1 multiblock, fresh, no room", call_of(FEC, zaytulobe_fresh_receiver(), 1));
+}
+
+/* A refused call gives back the number of the one that waits, an accepted one releases it. Of the two that come the first has 1
+   invalid header and the second 2. */
+static void run_room_for_invalid(void) {
+    struct zaytulobe_receiver state = {.waiting = 1, .invalid = 5};
+    struct call call = call_of(FEC, state, 2);
+    put_header(1, 27, 3);
+    put_header(2, 27, 0);
+    put_header(2, 28, 3);
+    call.invalid -= 1;
+    state = try_call("2 multiblocks, one waiting with 5 invalid headers, room for 1 number of them", call);
+    printf("  waiting with %d\n", state.invalid);
+    call.invalid += 1;
+    state = try_call("2 multiblocks, one waiting with 5 invalid headers, room for 2 numbers of them", call);
+    printf("  ");
+    print_invalid(&out, 2);
+    printf(", waiting with %d\n", state.invalid);
 }
 
 /* The lower number of two that apply. */
@@ -238,6 +284,8 @@ static void run_cuts(u8 mode, size multiblocks) {
     printf(", commands");
     for (size k = 0; k < whole.count; k++)
         printf(" %u", out.commands[k]);
+    printf(", ");
+    print_invalid(&out, whole.count);
     printf("\n");
     for (size cut = 0; cut <= multiblocks; cut++) {
         memset(&parts, UNTOUCHED, sizeof parts);
@@ -246,6 +294,35 @@ static void run_cuts(u8 mode, size multiblocks) {
         int same = memcmp(&out, &parts, sizeof out) == 0 && same_state(whole.state, tail.state);
         printf("cut after %lu: released %lu, then %lu; %s\n", cut, head.count, tail.count,
             same ? "the same releases and end state" : "OTHER RELEASES OR END STATE");
+    }
+}
+
+/* Every header of multiblock 1 is 00, and of multiblock 2 11; of multiblock 4 the first is 00 and the last 11; of multiblock 5
+   one is 11. */
+static void make_garbled(u8 mode, size multiblocks) {
+    make_lane(mode, 3, multiblocks);
+    for (size block = 0; block < BLOCKS; block++) {
+        put_header(1, block, 0);
+        put_header(2, block, 3);
+    }
+    put_header(4, 0, 0);
+    put_header(4, 31, 3);
+    put_header(5, 9, 3);
+}
+
+/* The numbers of all that are released, from one call and from two; between the two the state has that of the waiting one. */
+static void run_invalid(u8 mode, size multiblocks) {
+    make_garbled(mode, multiblocks);
+    struct zaytulobe_received whole = receive(mode, zaytulobe_fresh_receiver(), 0, multiblocks, &out, 0);
+    printf("%s, multiblock 1 all 00, 2 all 11, 4 with one of each, 5 with one 11: ", name_of(mode));
+    print_invalid(&out, whole.count);
+    printf(", waiting with %d\n", whole.state.invalid);
+    for (size cut = 0; cut <= multiblocks; cut++) {
+        struct zaytulobe_received head = receive(mode, zaytulobe_fresh_receiver(), 0, cut, &parts, 0);
+        struct zaytulobe_received tail = receive(mode, head.state, cut, multiblocks - cut, &parts, head.count);
+        printf("cut after %lu: waiting with %d; in all ", cut, head.state.invalid);
+        print_invalid(&parts, head.count + tail.count);
+        printf(", waiting with %d\n", tail.state.invalid);
     }
 }
 
@@ -301,12 +378,16 @@ int main(void) {
     run_counts(FEC);
     run_modes();
     run_waiting_states();
+    run_invalid_states();
     run_empty_states();
     run_lengths();
     run_room();
+    run_room_for_invalid();
     run_two_at_once();
     run_cuts(CRC12, 8);
     run_cuts(FEC, 8);
+    run_invalid(CRC12, 6);
+    run_invalid(FEC, 6);
     run_longest();
     run_tied();
     return 0;

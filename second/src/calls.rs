@@ -13,10 +13,11 @@
 //! draw(how many) becomes 128, or 1; a lane of 264 octets for each and draw(16), rarely 1 less than for each.
 //!
 //! receive: waiting = [0, 0, 0, 1, 1, 1, 1, 1][draw(8)], rarely 2; trusted = draw(2), rarely 2; a history; a command,
-//! draw(256), rarely 256 more, or with another mode than 0 rarely 1; 256 octets. With nothing waiting, draw(8): 0 keeps
-//! all, 1 only the history, 2 the command, 3 trusted, 4 the octets, others none; what isn't kept becomes 0. A count; 264
-//! lane octets for each, rarely 1 + draw(263) more. Lent: 256 octets for each and draw(16), and four lists, one for each
-//! and draw(3); rarely number draw(5) of these five is 1 less than for each.
+//! draw(256), rarely 256 more, or with another mode than 0 rarely 1; 256 octets; invalid = draw(33), but if draw(4) is 0
+//! then [0, 32, 33, 255][draw(4)]. With nothing waiting, draw(12): 0 keeps all, 1 only the history, 2 the command, 3 trusted,
+//! 4 the octets, 5 invalid, others none; what isn't kept becomes 0. A count; 264 lane octets for each, rarely 1 + draw(263)
+//! more. Lent: 256 octets for each and draw(16), and five lists, one for each and draw(3); if draw(8) is 0, number draw(6) of
+//! these six is 1 less than for each.
 //!
 //! step: locked = [0, 1, 1, 1, 1, 1, 1, 1][draw(8)], rarely 2; offset = draw(66), rarely 66 more; run = draw(64), rarely 64
 //! more; bad = draw(16) if locked is 1, rarely 16 more; phase = draw(3), rarely 3; seen = [0, 5, 31, 32, 32, 32, 32,
@@ -30,8 +31,8 @@
 //! more, rarely 256 more. The octets are 0.
 //!
 //! Every number lent to be written is 165 before. Lines: `SEED send REFUSAL COUNT HISTORY PARITY NUMBER DIGEST`, the digest
-//! of the lane; `SEED receive REFUSAL COUNT WAITING HISTORY TRUSTED COMMAND DIGEST DIGEST`, those of the state's octets and of
-//! all that was lent, numbers but for octets and statuses as 8 octets; `SEED step REFUSAL` and the fields of the state
+//! of the lane; `SEED receive REFUSAL COUNT WAITING HISTORY TRUSTED COMMAND INVALID DIGEST DIGEST`, those of the state's octets
+//! and of all that was lent, commands, places and patterns as 8 octets each; `SEED step REFUSAL` and the fields of the state
 //! (locks.rs); `SEED longest REFUSAL START COUNT`.
 
 use crate::bits;
@@ -138,6 +139,17 @@ struct Given {
     history: u64,
     command: u32,
     octets: Vec<u8>,
+    invalid: u8,
+}
+
+/// In range, but often at the edge of it or past that.
+fn draw_invalid(generator: &mut Generator) -> u8 {
+    let any = generator.draw(BLOCKS + 1) as u8;
+    if generator.draw(4) == 0 {
+        generator.one_of(&[0, 32, 33, 255])
+    } else {
+        any
+    }
 }
 
 impl Given {
@@ -147,21 +159,23 @@ impl Given {
         let history = draw_history(generator);
         let command = if mode == 0 { draw_number(generator, 256) } else { 0 };
         let command = or_more(generator, command, if mode == 0 { 256 } else { 1 });
-        Given { waiting, trusted, history, command, octets: generator.draw_octets(USER_OCTETS) }
+        let octets = generator.draw_octets(USER_OCTETS);
+        Given { waiting, trusted, history, command, octets, invalid: draw_invalid(generator) }
     }
 
     fn draw(generator: &mut Generator, mode: u8) -> Given {
         let any = Given::draw_any(generator, mode);
-        let none = Given { waiting: 0, trusted: 0, history: 0, command: 0, octets: vec![0; USER_OCTETS] };
+        let none = Given::of(&Receiver::fresh());
         if any.waiting != 0 {
             return any;
         }
-        match generator.draw(8) {
+        match generator.draw(12) {
             0 => any,
             1 => Given { history: any.history, ..none },
             2 => Given { command: any.command, ..none },
             3 => Given { trusted: any.trusted, ..none },
             4 => Given { octets: any.octets, ..none },
+            5 => Given { invalid: any.invalid, ..none },
             _ => none,
         }
     }
@@ -175,6 +189,7 @@ impl Given {
             history: self.history,
             trusted: self.trusted == 1,
             command: self.command,
+            invalid: self.invalid,
         };
         Some(state).filter(|_| self.waiting < 2 && self.trusted < 2)
     }
@@ -186,17 +201,18 @@ impl Given {
             history: state.history,
             command: state.command,
             octets: state.octets.to_vec(),
+            invalid: state.invalid,
         }
     }
 }
 
 fn draw_lent(generator: &mut Generator, count: usize) -> Lent {
-    let mut rooms = [USER_OCTETS * count + generator.draw(16), 0, 0, 0, 0];
+    let mut rooms = [USER_OCTETS * count + generator.draw(16), 0, 0, 0, 0, 0];
     for room in &mut rooms[1..] {
         *room = count + generator.draw(3);
     }
-    if generator.rarely() {
-        let which = generator.draw(5);
+    if generator.draw(8) == 0 {
+        let which = generator.draw(6);
         rooms[which] = (if which == 0 { USER_OCTETS * count } else { count }).saturating_sub(1);
     }
     Lent {
@@ -205,6 +221,7 @@ fn draw_lent(generator: &mut Generator, count: usize) -> Lent {
         commands: vec![u32::from(BEFORE); rooms[2]],
         places: vec![u16::from(BEFORE); rooms[3]],
         patterns: vec![u16::from(BEFORE); rooms[4]],
+        invalid: vec![BEFORE; rooms[5]],
     }
 }
 
@@ -212,7 +229,7 @@ fn digest_of(lent: &Lent) -> Digest {
     let octets = Digest::of(&lent.octets).with(&lent.statuses);
     let commands = lent.commands.iter().map(|command| u64::from(*command));
     let bursts = lent.places.iter().chain(&lent.patterns).map(|number| u64::from(*number));
-    commands.chain(bursts).fold(octets, Digest::with_number)
+    commands.chain(bursts).fold(octets, Digest::with_number).with(&lent.invalid)
 }
 
 fn receive(generator: &mut Generator) -> String {
@@ -228,9 +245,9 @@ fn receive(generator: &mut Generator) -> String {
         }
         None => (if mode(number).is_some() { 3 } else { 1 }, 0, given),
     };
-    let Given { waiting, trusted, history, command, octets } = after;
+    let Given { waiting, trusted, history, command, octets, invalid } = after;
     let digests = [Digest::of(&octets), digest_of(&lent)].map(Digest::hexadecimal).join(" ");
-    format!("receive {refusal} {count} {waiting} {history} {trusted} {command} {digests}")
+    format!("receive {refusal} {count} {waiting} {history} {trusted} {command} {invalid} {digests}")
 }
 
 /// The fields of both locks, in the order of `Lock::numbers`.
@@ -352,5 +369,18 @@ mod tests {
                 assert!(count > 2, "{name} refused by {refusal}: {count}");
             }
         }
+    }
+
+    /// A refused state comes back as it was given: WAITING is word 3 of the line, INVALID word 7.
+    #[test]
+    fn numbers_of_invalid_headers_are_refused() {
+        let refused: Vec<String> = (1..=4000).map(call).filter(|line| line.starts_with("receive 3 ")).collect();
+        let given = |line: &String| {
+            let words: Vec<&str> = line.split(' ').collect();
+            (words[3] == "0", words[7].parse::<u8>().unwrap())
+        };
+        let count = |holds: fn(bool, u8) -> bool| refused.iter().map(given).filter(|(no, k)| holds(*no, *k)).count();
+        assert!(count(|_, invalid| invalid == 33) > 2 && count(|_, invalid| invalid == 255) > 2);
+        assert!(count(|nothing_waits, invalid| nothing_waits && (1..=32).contains(&invalid)) > 2);
     }
 }

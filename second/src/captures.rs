@@ -5,7 +5,7 @@ use std::ops::Range;
 
 use crate::cases::Input;
 use crate::damaged::flipped;
-use crate::frame::with_header;
+use crate::frame::with_headers;
 use crate::generator::Generator;
 use crate::mode::{mode, BLOCKS, BLOCK_BITS, BLOCK_DATA_BITS, DATA_BITS, LANE_OCTETS, MULTIBLOCK_BITS};
 
@@ -50,8 +50,8 @@ fn lane(seed: u64, mode: u8, e: u16, multiblocks: usize) -> Vec<u8> {
 /// The first lane bit of the block of a multiblock that carries a bit of the parity, 0 the first that is sent.
 fn parity_place(number: u8, multiblock: usize, bit: usize) -> usize {
     let mode = mode(number).expect("captures are of mode 0 or 1");
-    let wanted = 1 << (mode.code.width() - 1 - bit);
-    let carries = |block: &usize| mode.layout.parity(1 << (31 - block)) == wanted;
+    let wanted = (mode.code.width() - 1 - bit) as u32;
+    let carries = |block: &usize| mode.layout.parity_bit(*block) == Some(wanted);
     let block = (0..BLOCKS).find(carries).expect("every bit of the parity is sent");
     MULTIBLOCK_BITS * multiblock + BLOCK_BITS * block
 }
@@ -79,7 +79,7 @@ fn hit(mode: u8, lane: &[u8], multiblock: usize, place: usize, pattern: usize) -
 /// The lane with the headers of these blocks of every multiblock set to 11.
 fn spoilt(lane: &[u8], blocks: &[usize]) -> Vec<u8> {
     let all = (0..lane.len() / LANE_OCTETS).flat_map(|k| blocks.iter().map(move |block| BLOCKS * k + block));
-    all.fold(lane.to_vec(), |lane, block| with_header(&lane, block, [true, true]))
+    with_headers(lane, &all.map(|block| (block, [true, true])).collect::<Vec<_>>())
 }
 
 /// Those of `examples/`.

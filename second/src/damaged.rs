@@ -2,34 +2,39 @@
 //! the digest).
 //!
 //! Drawn: mode = draw(2); E = [1, 2, 3, 256][draw(4)]; N = 2 + draw(6) multiblocks; user octets;
-//! commands. The lane is made in one call of a fresh sender. Then kind = draw(8):
+//! commands. The lane is made in one call of a fresh sender. Then kind = draw(10):
 //!   0  none
 //!   1  one burst of at most 9 lane bits in FEC, 12 in CRC-12
 //!   2  1 + draw(4) bursts of at most 14 lane bits
-//!   3  1 + draw(8) headers: block draw(32 N) gets 00 if draw(2) is 0, and 11 if it is 1
+//!   3  1 + draw(8) headers: block draw(32 N) gets an invalid one
 //!   4  1 + draw(64) octets: octet draw(264 N) becomes draw(256)
 //!   5  both header bits flipped in every block of the multiblocks N / 2 (rounded down) to N - 1 that carries parity
 //!   6  bursts of at most 9 lane bits in FEC, 12 in CRC-12, 4,224 clear bits or more between: the first begins at bit
 //!      draw(4224), each next draw(2112) bits later than it could, while they end within the lane; of each the length is
 //!      drawn, then its bits, then where the next begins
 //!   7  every octet is drawn
+//!   8  1 + draw(3) stretches of headers: from block draw(32 N) on 1 + draw(96) blocks, but at most to the lane's end, get
+//!      00 if draw(3) is 0, 11 if it is 1, and an invalid one each if it is 2
+//!   9  noise = 1 + draw(8); each block in order, if draw(noise) is 0, gets an invalid header
 //! A burst of at most m bits: length = 1 + draw(m); first bit = draw(2112 N - length + 1); the first and the last are
-//! flipped, and each between, in order, if draw(2) is 1.
+//! flipped, and each between, in order, if draw(2) is 1. An invalid header is 00 if draw(2) is 0, and 11 if it is 1.
 //! Then the calls are drawn in which the lane is received, the first from a fresh state.
-//! A line: `SEED damaged MODE N KIND COUNT`, COUNT multiblocks released in all; for each ` STATUS/PLACE/PATTERN/COMMAND`;
-//! ` DIGEST` of all released octets; the end state as ` WAITING HISTORY TRUSTED COMMAND DIGEST`, the digest of its 256
-//! octets; and the longest run of statuses 0 and 1 over all releases as ` START LENGTH` in multiblocks, 0 0 if none.
+//! A line: `SEED damaged MODE N KIND COUNT`, COUNT multiblocks released in all; for each
+//! ` STATUS/PLACE/PATTERN/COMMAND/INVALID`; ` DIGEST` of all released octets; the end state as
+//! ` WAITING HISTORY TRUSTED COMMAND INVALID DIGEST`, the digest of its 256 octets; and the longest run of statuses 0 and 1
+//! over all releases as ` START LENGTH` in multiblocks, 0 0 if none.
 
 use crate::bits;
 use crate::cases::{draw_calls, draw_extent, draw_mode, Input};
 use crate::digest::Digest;
-use crate::frame;
+use crate::frame::{self, NewHeader};
 use crate::generator::Generator;
 use crate::longest;
 use crate::mode::{mode, Mode, BLOCKS, BLOCK_BITS, LANE_OCTETS, MULTIBLOCK_BITS, USER_OCTETS};
 use crate::receiver::{self, Lent, Receiver};
 
 const LONG_BURST: usize = 14;
+const LONG_STRETCH: usize = 96;
 const CLEAR_BITS: usize = 4224;
 
 pub struct Case {
@@ -82,22 +87,50 @@ fn draw_far_bursts(generator: &mut Generator, at_most: usize, lane_bits: usize) 
 
 /// The lane bits of all headers that carry parity in the multiblocks from `first` on.
 fn parity_headers(mode: &Mode, first: usize, multiblocks: usize) -> Vec<usize> {
-    let carries = |block: &usize| mode.layout.parity(1 << (31 - block % BLOCKS)) != 0;
+    let carries = |block: &usize| mode.layout.parity_bit(block % BLOCKS).is_some();
     let blocks = (BLOCKS * first..BLOCKS * multiblocks).filter(carries);
     blocks.flat_map(|block| [BLOCK_BITS * block, BLOCK_BITS * block + 1]).collect()
 }
 
+fn draw_invalid(generator: &mut Generator, block: usize) -> NewHeader {
+    let bit = generator.draw(2) == 1;
+    (block, [bit, bit])
+}
+
+/// Invalid headers at blocks that are drawn.
+fn draw_headers(generator: &mut Generator, blocks: usize) -> Vec<NewHeader> {
+    let count = 1 + generator.draw(8);
+    let header = |_| {
+        let block = generator.draw(blocks);
+        draw_invalid(generator, block)
+    };
+    (0..count).map(header).collect()
+}
+
+/// A stretch of invalid headers: all 00, all 11, or drawn.
+fn draw_stretch(generator: &mut Generator, blocks: usize) -> Vec<NewHeader> {
+    let first = generator.draw(blocks);
+    let end = blocks.min(first + 1 + generator.draw(LONG_STRETCH));
+    let pair = generator.draw(3);
+    let header = |block| if pair == 2 { draw_invalid(generator, block) } else { (block, [pair == 1; 2]) };
+    (first..end).map(header).collect()
+}
+
+/// Invalid headers all along the lane.
+fn draw_noise(generator: &mut Generator, blocks: usize) -> Vec<NewHeader> {
+    let noise = 1 + generator.draw(8);
+    let header = |block| (generator.draw(noise) == 0).then(|| draw_invalid(generator, block));
+    (0..blocks).filter_map(header).collect()
+}
+
 fn damage(generator: &mut Generator, kind: usize, mode: &Mode, multiblocks: usize, lane: Vec<u8>) -> Vec<u8> {
     let lane_bits = MULTIBLOCK_BITS * multiblocks;
+    let blocks = BLOCKS * multiblocks;
     match kind {
         1 => flipped(&lane, &draw_burst(generator, mode.burst_limit, lane_bits)),
         2 => (0..1 + generator.draw(4))
             .fold(lane, |lane, _| flipped(&lane, &draw_burst(generator, LONG_BURST, lane_bits))),
-        3 => (0..1 + generator.draw(8)).fold(lane, |lane, _| {
-            let block = generator.draw(BLOCKS * multiblocks);
-            let bit = generator.draw(2) == 1;
-            frame::with_header(&lane, block, [bit, bit])
-        }),
+        3 => frame::with_headers(&lane, &draw_headers(generator, blocks)),
         4 => (0..1 + generator.draw(64)).fold(lane, |mut lane, _| {
             let place = generator.draw(LANE_OCTETS * multiblocks);
             lane[place] = generator.draw_octet();
@@ -106,6 +139,9 @@ fn damage(generator: &mut Generator, kind: usize, mode: &Mode, multiblocks: usiz
         5 => flipped(&lane, &parity_headers(mode, multiblocks / 2, multiblocks)),
         6 => flipped(&lane, &draw_far_bursts(generator, mode.burst_limit, lane_bits)),
         7 => generator.draw_octets(lane.len()),
+        8 => (0..1 + generator.draw(3))
+            .fold(lane, |lane, _| frame::with_headers(&lane, &draw_stretch(generator, blocks))),
+        9 => frame::with_headers(&lane, &draw_noise(generator, blocks)),
         _ => lane,
     }
 }
@@ -115,7 +151,7 @@ pub fn draw_case(generator: &mut Generator) -> Case {
     let e = draw_extent(generator);
     let multiblocks = 2 + generator.draw(6);
     let lane = Input::draw(generator, number, e, multiblocks).lane();
-    let kind = generator.draw(8);
+    let kind = generator.draw(10);
     let mode = mode(number).expect("a mode drawn is 0 or 1");
     Case { mode: number, e, multiblocks, kind, lane: damage(generator, kind, mode, multiblocks, lane) }
 }
@@ -145,11 +181,12 @@ pub fn line(seed: u64) -> String {
     let (case, Outcome { released, state }) = case_and_outcome(seed);
     let count = released.statuses.len();
     let release = |k: usize| {
-        let Lent { statuses, places, patterns, commands, .. } = &released;
-        format!(" {}/{}/{}/{}", statuses[k], places[k], patterns[k], commands[k])
+        let Lent { statuses, places, patterns, commands, invalid, .. } = &released;
+        format!(" {}/{}/{}/{}/{}", statuses[k], places[k], patterns[k], commands[k], invalid[k])
     };
     let releases: String = (0..count).map(release).collect();
-    let end = format!("{} {} {} {}", u8::from(state.waiting), state.history, u8::from(state.trusted), state.command);
+    let [waiting, trusted] = [state.waiting, state.trusted].map(u8::from);
+    let end = format!("{waiting} {} {trusted} {} {}", state.history, state.command, state.invalid);
     let (start, length) = longest::span(&released.statuses);
     assert_eq!(longest::longest_run(&released.octets, &released.statuses).part.len(), USER_OCTETS * length);
     format!(
@@ -198,11 +235,13 @@ mod tests {
         }
     }
 
-    /// Each status occurs in each mode that has it, bursts in the data and in the parity, and marked commands.
+    /// Each status occurs in each mode that has it, bursts in the data and in the parity, marked commands, and numbers of
+    /// invalid headers from none to all.
     #[test]
     fn every_status_occurs() {
         let mut seen = [[0; 8]; 2];
         let (mut in_data, mut in_parity, mut marked) = (0, 0, 0);
+        let mut invalid = [0; 33];
         for seed in SEEDS {
             let (case, Outcome { released, .. }) = case_and_outcome(seed);
             for (k, status) in released.statuses.iter().enumerate() {
@@ -210,10 +249,12 @@ mod tests {
                 in_data += usize::from(status & 1 == 1 && released.places[k] < 2048);
                 in_parity += usize::from(status & 1 == 1 && released.places[k] >= 2048);
                 marked += usize::from(released.commands[k] > 127);
+                invalid[usize::from(released.invalid[k])] += 1;
             }
         }
         assert!([0, 2, 4, 6].iter().all(|status| seen[0][*status] > 9));
         assert!([0, 1, 2, 4, 5, 6].iter().all(|status| seen[1][*status] > 9));
         assert!(in_data > 9 && in_parity > 9 && marked > 9);
+        assert!([0, 1, 2, 16, 32].iter().all(|number| invalid[*number] > 9));
     }
 }

@@ -1,20 +1,19 @@
 //! Multiblocks on the lane, bit by bit (clauses 7.1 and 7.3.2; document 01, "From octets to lane bits"): 32 blocks, each
-//! a header of two bits and 64 scrambled bits. Header 01 carries 1, header 10 carries 0; 00 and 11 are invalid, and read
-//! as 0.
+//! a header of two bits and 64 scrambled bits.
 
 use crate::bits;
+use crate::header::Headers;
 use crate::mode::{BLOCKS, BLOCK_BITS, BLOCK_DATA_BITS};
 
 const HEADER_BITS: usize = 2;
 
-/// What a multiblock carries: its sync word, the first header's bit highest; which headers were invalid, in the same
-/// order; and its 2,048 scrambled bits.
+/// A multiblock as it was seen: its headers, and its 2,048 scrambled bits.
 pub struct Multiblock {
-    pub word: u32,
-    pub invalid: u32,
+    pub headers: Headers,
     pub data: Vec<bool>,
 }
 
+/// Header 01 is sent for 1, header 10 for 0.
 fn header_carrying(bit: bool) -> [bool; HEADER_BITS] {
     if bit {
         [false, true]
@@ -30,38 +29,42 @@ pub fn lane_bits(word: u32, data: &[bool]) -> Vec<bool> {
     blocks.flat_map(|(bit, block)| [&header_carrying(*bit), block].concat()).collect()
 }
 
-/// The number of those blocks for whose header something holds, block 0 the highest bit.
-fn those(lane: &[bool], holds: impl Fn(&[bool]) -> bool) -> u32 {
-    let answers: Vec<bool> = lane.chunks(BLOCK_BITS).map(|block| holds(&block[..HEADER_BITS])).collect();
-    bits::number(&answers) as u32
+/// The values of the headers of whole blocks: the first bit times 2, plus the second.
+fn values(lane: &[bool]) -> Vec<u8> {
+    lane.chunks(BLOCK_BITS).map(|block| bits::number(&block[..HEADER_BITS]) as u8).collect()
 }
 
 impl Multiblock {
-    /// What 2,112 lane bits carry.
+    /// What is seen in 2,112 lane bits.
     pub fn of(lane: &[bool]) -> Multiblock {
         Multiblock {
-            word: those(lane, |header| header == header_carrying(true)),
-            invalid: those(lane, |header| header[0] == header[1]),
+            headers: Headers::of(&values(lane)),
             data: lane.chunks(BLOCK_BITS).flat_map(|block| block[HEADER_BITS..].to_vec()).collect(),
         }
     }
 }
 
-/// The values of the headers of whole multiblocks: the first bit times 2, plus the second.
+/// The values of the headers of whole multiblocks.
 pub fn header_values(lane: &[u8]) -> Vec<u8> {
-    bits::of_octets(lane).chunks(BLOCK_BITS).map(|block| bits::number(&block[..HEADER_BITS]) as u8).collect()
+    values(&bits::of_octets(lane))
 }
 
-/// The lane's octets with the two bits of a block's header set.
-pub fn with_header(lane: &[u8], block: usize, header: [bool; HEADER_BITS]) -> Vec<u8> {
+/// A block, and the two bits that its header gets.
+pub type NewHeader = (usize, [bool; HEADER_BITS]);
+
+/// The lane's octets with these headers set, one after another.
+pub fn with_headers(lane: &[u8], headers: &[NewHeader]) -> Vec<u8> {
     let mut all = bits::of_octets(lane);
-    all[block * BLOCK_BITS..][..HEADER_BITS].copy_from_slice(&header);
+    for (block, header) in headers {
+        all[block * BLOCK_BITS..][..HEADER_BITS].copy_from_slice(header);
+    }
     bits::octets(&all)
 }
 
 #[cfg(test)]
 mod tests {
-    use super::{bits, header_values, lane_bits, with_header, Multiblock};
+    use super::{bits, header_values, lane_bits, with_headers, Multiblock};
+    use crate::header::{Header, Headers};
 
     fn data() -> Vec<bool> {
         (0..2048).map(|k| k * k % 7 < 3).collect()
@@ -70,7 +73,7 @@ mod tests {
     #[test]
     fn what_is_sent_is_read() {
         let read = Multiblock::of(&lane_bits(0x393F_9521, &data()));
-        assert_eq!((read.word, read.invalid, read.data), (0x393F_9521, 0, data()));
+        assert_eq!((read.headers, read.data), (Headers::carrying(0x393F_9521), data()));
     }
 
     #[test]
@@ -82,10 +85,11 @@ mod tests {
     }
 
     #[test]
-    fn invalid_headers_read_as_0() {
+    fn invalid_headers_are_seen_with_their_pair() {
         let lane = bits::octets(&lane_bits(0xFFFF_FFFF, &data()));
-        let lane = with_header(&with_header(&lane, 0, [true, true]), 31, [false, false]);
-        let read = Multiblock::of(&bits::of_octets(&lane));
-        assert_eq!((read.word, read.invalid), (0x7FFF_FFFE, 0x8000_0001));
+        let lane = with_headers(&lane, &[(0, [true, true]), (31, [false, false])]);
+        let Multiblock { headers, data: seen } = Multiblock::of(&bits::of_octets(&lane));
+        assert_eq!([0, 1, 31].map(|block| headers.at(block)), [Header::Invalid(3), Header::One, Header::Invalid(0)]);
+        assert_eq!((headers.invalid(), seen), (2, data()));
     }
 }

@@ -2,6 +2,7 @@
 //! 7.6.1 and 7.6.2). The last 32 headers' bits are a list, the latest last, so that its places are those of a sync word.
 
 use crate::bits;
+use crate::header::Header;
 use crate::mode::{is_extent, mode, BLOCKS, BLOCK_BITS};
 
 const END_MARK: usize = 22;
@@ -51,15 +52,6 @@ pub struct Stepped {
     pub lock: Lock,
 }
 
-fn is_valid(header: u8) -> bool {
-    header == 0b01 || header == 0b10
-}
-
-/// An invalid header is read as 0.
-fn carries(header: u8) -> bool {
-    header == 0b01
-}
-
 impl HeaderLock {
     fn fresh() -> HeaderLock {
         HeaderLock { locked: false, offset: 0, run: 0, bad: 0 }
@@ -70,8 +62,8 @@ impl HeaderLock {
         self.run < LOCKED_AFTER && self.bad <= bad && self.offset < BLOCK_BITS as u32
     }
 
-    fn step(mut self, valid: bool) -> HeaderLock {
-        if valid {
+    fn step(mut self, header: Header) -> HeaderLock {
+        if !header.is_invalid() {
             self.run += 1;
             if self.run == LOCKED_AFTER {
                 self = HeaderLock { locked: true, run: 0, bad: 0, ..self };
@@ -108,9 +100,9 @@ impl ExtendedLock {
         }
     }
 
-    fn see(&mut self, header: u8) {
+    fn see(&mut self, header: Header) {
         self.headers.rotate_left(1);
-        self.headers[BLOCKS - 1] = carries(header);
+        self.headers[BLOCKS - 1] = header.carries();
         self.seen = (self.seen + 1).min(BLOCKS as u32);
     }
 
@@ -139,7 +131,7 @@ impl ExtendedLock {
         }
     }
 
-    fn step(mut self, e: u32, header: u8) -> ExtendedLock {
+    fn step(mut self, e: u32, header: Header) -> ExtendedLock {
         self.see(header);
         self.next = self.next.saturating_sub(1);
         let looks = self.next == 0;
@@ -184,27 +176,28 @@ impl Lock {
 }
 
 /// The lowest number of refusal that applies, or 0.
-fn refusal(number: u8, e: u32, lock: &Lock, header: u8) -> u8 {
+fn refusal(number: u8, e: u32, lock: &Lock, value: u8) -> u8 {
     if mode(number).is_none() {
         1
     } else if !is_extent(e) {
         2
     } else if !lock.is_in_range(e) {
         3
-    } else if header > 3 {
+    } else if value > 3 {
         9
     } else {
         0
     }
 }
 
-/// Both locks after one more header. The header that gives header lock does not step extended lock.
-pub fn step(number: u8, e: u32, lock: Lock, header: u8) -> Stepped {
-    let refusal = refusal(number, e, &lock, header);
+/// Both locks after one more header, given by its value. The header that gives header lock does not step extended lock.
+pub fn step(number: u8, e: u32, lock: Lock, value: u8) -> Stepped {
+    let refusal = refusal(number, e, &lock, value);
     if refusal != 0 {
         return Stepped { refusal, lock };
     }
-    let after = lock.header.step(is_valid(header));
+    let header = Header::of(value);
+    let after = lock.header.step(header);
     let extended =
         if lock.header.locked && after.locked { lock.extended.step(e, header) } else { ExtendedLock::fresh() };
     Stepped { refusal: 0, lock: Lock { header: after, extended } }

@@ -1,9 +1,9 @@
 //! The second program: scrambling bit by bit (clause 7.2.4), sync words by the lists of Tables 41 and 45 (clause 7.3),
 //! and parity by long division of polynomials (clauses 7.4.2 and 7.5.2).
-//! `second tables` prints Tables 37, 52, 54 and 55 and a spread of sync words; `second misprint` and `second bursts`
-//! print what can be found by trying every case. `second bulk FIRST LAST` prints a line for the seeded case of each seed
-//! from FIRST to LAST. `second captures` prints named captures one after another, `second capture NAME` one of them, and
-//! `second listings` the listings of those on standard input.
+//! `second tables` prints Tables 37, 52, 54 and 55, a spread of sync words, and what headers read as; `second misprint`
+//! and `second bursts` print what can be found by trying every case. `second bulk FIRST LAST` prints a line for the seeded
+//! case of each seed from FIRST to LAST. `second captures` prints named captures one after another, `second capture NAME`
+//! one of them, and `second listings` the listings of those on standard input.
 
 mod bits;
 mod bulk;
@@ -16,6 +16,7 @@ mod damaged;
 mod digest;
 mod frame;
 mod generator;
+mod header;
 mod lanes;
 mod listed;
 mod listing;

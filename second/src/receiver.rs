@@ -1,6 +1,7 @@
 //! The receiver, bit by bit (document 01, "What the receiver releases" and "Numbers of refusal"). A multiblock waits
 //! until the next has come with its parity. The two together are a codeword: it agrees where long division leaves
-//! nothing, and else, in FEC mode, the burst that leaves the same is flipped.
+//! nothing, and else, in FEC mode, the burst that leaves the same is flipped. With each goes how many of its own headers
+//! were invalid (document 02, request 1).
 
 use std::collections::HashMap;
 use std::sync::LazyLock;
@@ -8,7 +9,7 @@ use std::sync::LazyLock;
 use crate::bits;
 use crate::bursts::{self, Burst};
 use crate::frame::Multiblock;
-use crate::mode::{mode, Mode, DATA_BITS, LANE_OCTETS, MOST_MULTIBLOCKS, USER_OCTETS};
+use crate::mode::{mode, Mode, BLOCKS, DATA_BITS, LANE_OCTETS, MOST_MULTIBLOCKS, USER_OCTETS};
 use crate::polynomial::Polynomial;
 use crate::scrambler::{descramble, HISTORY_BITS};
 
@@ -22,6 +23,8 @@ pub struct Receiver {
     pub history: u64,
     pub trusted: bool,
     pub command: u32,
+    /// Invalid headers of the multiblock that waits.
+    pub invalid: u8,
 }
 
 #[derive(Debug, PartialEq)]
@@ -40,6 +43,8 @@ pub struct Lent {
     pub commands: Vec<u32>,
     pub places: Vec<u16>,
     pub patterns: Vec<u16>,
+    /// Invalid headers of each.
+    pub invalid: Vec<u8>,
 }
 
 impl Lent {
@@ -51,6 +56,7 @@ impl Lent {
             commands: vec![0; count],
             places: vec![0; count],
             patterns: vec![0; count],
+            invalid: vec![0; count],
         }
     }
 
@@ -61,11 +67,13 @@ impl Lent {
         self.commands.extend(&other.commands[..count]);
         self.places.extend(&other.places[..count]);
         self.patterns.extend(&other.patterns[..count]);
+        self.invalid.extend(&other.invalid[..count]);
     }
 
     fn holds(&self, count: usize) -> bool {
-        let lists = [self.statuses.len(), self.commands.len(), self.places.len(), self.patterns.len()];
-        self.octets.len() >= USER_OCTETS * count && lists.iter().all(|length| *length >= count)
+        let Lent { octets, statuses, commands, places, patterns, invalid } = self;
+        let lists = [statuses.len(), commands.len(), places.len(), patterns.len(), invalid.len()];
+        octets.len() >= USER_OCTETS * count && lists.iter().all(|length| *length >= count)
     }
 
     fn write(&mut self, k: usize, release: &Release) {
@@ -74,6 +82,7 @@ impl Lent {
         self.commands[k] = release.command;
         self.places[k] = release.place;
         self.patterns[k] = release.pattern;
+        self.invalid[k] = release.invalid;
     }
 }
 
@@ -83,6 +92,7 @@ struct Release {
     command: u32,
     place: u16,
     pattern: u16,
+    invalid: u8,
 }
 
 /// Every burst that can be mended, by what it leaves.
@@ -123,13 +133,14 @@ impl Verdict {
 
 impl Receiver {
     pub fn fresh() -> Receiver {
-        Receiver { waiting: false, octets: [0; USER_OCTETS], history: 0, trusted: false, command: 0 }
+        Receiver { waiting: false, octets: [0; USER_OCTETS], history: 0, trusted: false, command: 0, invalid: 0 }
     }
 
     fn is_in_range(&self, mode: &Mode) -> bool {
         let highest_command = if mode.highest_command == 0 { 0 } else { HIGHEST_MARKED_COMMAND };
         let fits = self.history >> HISTORY_BITS == 0 && self.command <= highest_command;
-        fits && (self.waiting || *self == Receiver::fresh())
+        let counts = usize::from(self.invalid) <= BLOCKS;
+        fits && counts && (self.waiting || *self == Receiver::fresh())
     }
 
     /// How many are released when so many are received.
@@ -144,13 +155,13 @@ impl Receiver {
     /// The multiblock that has come waits from now on.
     fn waiting_with(mode: &Mode, come: &Multiblock, history: u64, trusted: bool) -> Receiver {
         let octets = bits::octets(&come.data).try_into().expect("a multiblock has 256 octets of data");
-        let command = mode.layout.command(come.word, come.invalid);
-        Receiver { waiting: true, octets, history, trusted, command }
+        let command = mode.layout.command(&come.headers);
+        Receiver { waiting: true, octets, history, trusted, command, invalid: come.headers.invalid() }
     }
 
     /// The multiblock that waits is released, now that the next one has come.
     fn release(&self, mode: &Mode, come: &Multiblock) -> (Receiver, Release) {
-        let parity = u64::from(mode.layout.parity(come.word));
+        let parity = u64::from(mode.layout.parity(&come.headers));
         let mut codeword = [bits::of_octets(&self.octets), bits::of_number(parity, mode.code.width())].concat();
         let verdict = Verdict::of(mode, &codeword);
         for position in verdict.flipped_positions() {
@@ -164,6 +175,7 @@ impl Receiver {
             command: self.command,
             place,
             pattern,
+            invalid: self.invalid,
         };
         let history = bits::number(&data[DATA_BITS - HISTORY_BITS..]);
         (Receiver::waiting_with(mode, come, history, status != 2), release)
@@ -215,7 +227,7 @@ pub fn receive(number: u8, state: Receiver, lane: &[u8], lent: &mut Lent) -> Rec
 mod tests {
     use super::{receive, Lent, Received, Receiver};
     use crate::bits;
-    use crate::frame::with_header;
+    use crate::frame::with_headers;
     use crate::sender::{send, Sender};
 
     const E: u32 = 2;
@@ -311,25 +323,45 @@ mod tests {
     fn an_invalid_header_marks_its_command() {
         let clean = lane(0, 3, 0x7F);
         for (block, command) in [(15, 0x7F), (16, 0xBF), (20, 0xF7), (22, 0x7F), (26, 0xFE), (27, 0x7F)] {
-            let (_, lent) = received(0, &with_header(&clean, 32 + block, [true, true]));
+            let (_, lent) = received(0, &with_headers(&clean, &[(32 + block, [true, true])]));
             assert_eq!((lent.commands[0], lent.commands[1]), (0x7F, command));
         }
     }
 
     #[test]
-    fn a_wrong_mark_or_fixed_bit_changes_nothing() {
+    fn a_wrong_mark_or_fixed_bit_changes_only_the_count() {
         for mode in [0, 1] {
             let clean = lane(mode, 4, 0);
             for block in [22, 27, 31] {
-                let hit = with_header(&clean, 32 * 2 + block, [false, false]);
-                assert_eq!(received(mode, &hit), received(mode, &clean));
+                let (state, mut lent) = received(mode, &with_headers(&clean, &[(32 * 2 + block, [false, false])]));
+                assert_eq!(lent.invalid, [0, 0, 1, 0]);
+                lent.invalid = vec![0; 4];
+                assert_eq!((state, lent), received(mode, &clean));
             }
+        }
+    }
+
+    /// Multiblock 1 has every header 00, multiblock 2 every header 11; of multiblock 4 the first is 00 and the last 11, of
+    /// multiblock 5 the first is 11.
+    #[test]
+    fn each_multiblock_has_its_own_count() {
+        for mode in [0, 1] {
+            let whole = (32..64).map(|block| (block, [false; 2])).chain((64..96).map(|block| (block, [true; 2])));
+            let headers: Vec<_> = whole.chain([(128, [false; 2]), (159, [true; 2]), (160, [true; 2])]).collect();
+            let lane = with_headers(&lane(mode, 6, 0), &headers);
+            let (all, lent) = received(mode, &lane);
+            assert_eq!((&lent.invalid[..5], all.state.invalid), (&[0, 32, 32, 0, 2][..], 1));
+            let mut lent = Lent::room_for(1);
+            let head = receive(mode, Receiver::fresh(), &lane[..528], &mut lent);
+            assert_eq!((&lent.invalid[..], head.state.invalid), (&[0][..], 32));
+            receive(mode, head.state, &lane[528..792], &mut lent);
+            assert_eq!(lent.invalid, [32]);
         }
     }
 
     #[test]
     fn a_lane_cut_anywhere_releases_the_same() {
-        let mut lane = lane(1, 5, 0);
+        let mut lane = with_headers(&lane(1, 5, 0), &[(32, [true; 2]), (127, [false; 2]), (128, [true; 2])]);
         flip(&mut lane, &[5, 9, 13]);
         let (whole, all) = received(1, &lane);
         for cut in 0..=5 {
@@ -341,7 +373,9 @@ mod tests {
             assert_eq!(tail.state, whole.state);
             let octets = [&first.octets[..256 * head.count], &second.octets[..256 * tail.count]].concat();
             let statuses = [&first.statuses[..head.count], &second.statuses[..tail.count]].concat();
+            let invalid = [&first.invalid[..head.count], &second.invalid[..tail.count]].concat();
             assert_eq!((&octets[..], &statuses[..]), (&all.octets[..1024], &all.statuses[..4]));
+            assert_eq!(invalid[..], all.invalid[..4]);
         }
     }
 
@@ -358,7 +392,7 @@ mod tests {
     #[test]
     fn refusals_of_states() {
         let check = |mode, state, refusal| assert_eq!(refusal_of(mode, state, 0, Lent::room_for(0)), refusal);
-        let waiting = || Receiver { waiting: true, octets: [9; 256], history: 5, trusted: true, command: 0 };
+        let waiting = || Receiver { waiting: true, octets: [9; 256], history: 5, trusted: true, ..Receiver::fresh() };
         check(2, waiting(), 1);
         check(0, waiting(), 0);
         check(0, Receiver { history: (1 << 58) - 1, ..waiting() }, 0);
@@ -366,6 +400,13 @@ mod tests {
         check(0, Receiver { command: 255, ..waiting() }, 0);
         check(0, Receiver { command: 256, ..waiting() }, 3);
         check(1, Receiver { command: 1, ..waiting() }, 3);
+        for mode in [0, 1] {
+            for (invalid, refusal) in [(1, 0), (32, 0), (33, 3), (255, 3)] {
+                check(mode, Receiver { invalid, ..waiting() }, refusal);
+            }
+        }
+        check(0, Receiver { command: 128, invalid: 0, ..waiting() }, 0);
+        check(0, Receiver { invalid: 1, ..Receiver::fresh() }, 3);
         check(0, Receiver { history: 1, ..Receiver::fresh() }, 3);
         check(0, Receiver { command: 1, ..Receiver::fresh() }, 3);
         check(0, Receiver { trusted: true, ..Receiver::fresh() }, 3);
@@ -390,6 +431,7 @@ mod tests {
         assert_eq!(refusal_of(0, waiting(), 264, Lent { commands: vec![], ..room() }), 7);
         assert_eq!(refusal_of(0, waiting(), 264, Lent { places: vec![], ..room() }), 7);
         assert_eq!(refusal_of(0, waiting(), 264, Lent { patterns: vec![], ..room() }), 7);
+        assert_eq!(refusal_of(0, waiting(), 264, Lent { invalid: vec![], ..room() }), 7);
     }
 
     #[test]

@@ -81,6 +81,7 @@ mod tests {
     use crate::bits;
     use crate::code;
     use crate::frame::Multiblock;
+    use crate::header::Headers;
     use crate::sync;
 
     fn refusal_of(number: u8, e: u32, state: Sender, user: usize, commands: &[u32], lane: usize) -> u8 {
@@ -102,9 +103,10 @@ mod tests {
         let mut lane = vec![0; 528];
         let sent = send(0, 2, Sender::fresh(), &[7; 512], &[0x41, 0x7F], &mut lane);
         let [first, second] = &multiblocks(&lane)[..] else { panic!() };
-        assert_eq!(first.word, sync::CRC12.word(sync::Fields { parity: 0, command: 0x41, mark: false }));
-        assert_eq!(sync::CRC12.parity(second.word), code::CRC12.parity(&bits::octets(&first.data)));
-        assert_eq!(second.word >> 9 & 1, 1);
+        let word = sync::CRC12.word(sync::Fields { parity: 0, command: 0x41, mark: false });
+        assert_eq!(first.headers, Headers::carrying(word));
+        assert_eq!(sync::CRC12.parity(&second.headers), code::CRC12.parity(&bits::octets(&first.data)));
+        assert!(second.headers.at(22).carries());
         assert_eq!(sent.state.parity, code::CRC12.parity(&bits::octets(&second.data)));
         assert_eq!(sent.state.history, bits::number(&second.data[1990..]));
         assert_eq!((sent.refusal, sent.count, sent.state.number), (0, 2, 0));
@@ -114,7 +116,8 @@ mod tests {
     fn the_end_mark_is_in_every_last() {
         let mut lane = vec![0; 264 * 7];
         let sent = send(1, 3, Sender { number: 1, ..Sender::fresh() }, &[0; 256 * 7], &[0; 7], &mut lane);
-        let marks: Vec<u32> = multiblocks(&lane).iter().map(|multiblock| multiblock.word >> 9 & 1).collect();
+        let marked = |multiblock: &Multiblock| u8::from(multiblock.headers.at(22).carries());
+        let marks: Vec<u8> = multiblocks(&lane).iter().map(marked).collect();
         assert_eq!((marks, sent.state.number), (vec![0, 1, 0, 0, 1, 0, 0], 2));
     }
 

@@ -1,6 +1,7 @@
 //! Sync words by the lists of Tables 41 and 45 (clauses 7.3.4 and 7.3.6): 32 functions, that of bit 0 first. Bit 0 is
-//! sent first and stands highest in the word.
+//! sent first and stands highest in the word. A word is read from the headers that came.
 
+use crate::header::Headers;
 use Function::{Cmd, Crc, EoEmb, Fec, One, Zero};
 
 /// What a bit of the sync word carries.
@@ -52,11 +53,6 @@ fn is_set(number: u32, k: u32) -> bool {
     number / 2_u32.pow(k) % 2 == 1
 }
 
-/// The bit at a position of 32: position 0 is the highest.
-fn at(bits: u32, position: usize) -> bool {
-    is_set(bits, 31 - position as u32)
-}
-
 impl Function {
     fn bit(self, fields: Fields) -> bool {
         match self {
@@ -90,23 +86,29 @@ impl Layout {
         self.functions.iter().fold(0, |word, function| 2 * word + u32::from(function.bit(fields)))
     }
 
-    /// A field read by the list: each of its bits that is set counts its power of two.
-    fn read(&self, bits: u32, field: fn(Function) -> Option<u32>) -> u32 {
-        let set = self.functions.iter().enumerate().filter(|(position, _)| at(bits, *position));
+    /// Which bit of the parity the header of a block carries, if it carries one.
+    pub fn parity_bit(&self, block: usize) -> Option<u32> {
+        self.functions[block].parity()
+    }
+
+    /// A field read by the list: each of its bits whose header carries 1 counts its power of two.
+    fn read(&self, headers: &Headers, field: fn(Function) -> Option<u32>) -> u32 {
+        let set = self.functions.iter().enumerate().filter(|(block, _)| headers.at(*block).carries());
         set.filter_map(|(_, function)| field(*function)).map(|k| 2_u32.pow(k)).sum()
     }
 
-    pub fn parity(&self, bits: u32) -> u32 {
-        self.read(bits, Function::parity)
+    pub fn parity(&self, headers: &Headers) -> u32 {
+        self.read(headers, Function::parity)
     }
 
-    /// The command, with 128 more if a header of one of its bits was invalid.
-    pub fn command(&self, bits: u32, bad: u32) -> u32 {
-        let own = self.read(bits, Function::command);
-        if self.read(bad, Function::command) == 0 {
-            own
-        } else {
+    /// The command, with 128 more if a header of one of its bits is invalid.
+    pub fn command(&self, headers: &Headers) -> u32 {
+        let own = self.read(headers, Function::command);
+        let mut of_command = self.functions.iter().enumerate().filter(|(_, function)| function.command().is_some());
+        if of_command.any(|(block, _)| headers.at(block).is_invalid()) {
             own + 128
+        } else {
+            own
         }
     }
 }
@@ -114,6 +116,7 @@ impl Layout {
 #[cfg(test)]
 mod tests {
     use super::{Fields, CRC12, FEC};
+    use crate::header::Headers;
 
     /// Rows 9 to 12 of the dozen.
     #[test]
@@ -126,14 +129,25 @@ mod tests {
 
     #[test]
     fn words_of_the_dozen_read_back() {
-        assert_eq!((CRC12.parity(0x393F9521), CRC12.command(0x393F9521, 0)), (0x30F, 0x41));
-        assert_eq!((FEC.parity(0x00000201), FEC.command(0x00000201, 0)), (0, 0));
+        let [crc12, fec] = [0x393F9521, 0x00000201].map(Headers::carrying);
+        assert_eq!((CRC12.parity(&crc12), CRC12.command(&crc12)), (0x30F, 0x41));
+        assert_eq!((FEC.parity(&fec), FEC.command(&fec)), (0, 0));
     }
 
     #[test]
-    fn only_bad_headers_of_the_command_mark_it() {
-        assert_eq!(CRC12.command(0, 0x0000_8000), 128);
-        assert_eq!(CRC12.command(0, 0xFFFF_0000), 0);
-        assert_eq!(FEC.command(0xFFFF_FFFF, 0xFFFF_FFFF), 0);
+    fn only_invalid_headers_of_the_command_mark_it() {
+        for invalid in [0, u32::MAX] {
+            let spoilt = |blocks: u32| Headers::of_words(!blocks | invalid & blocks, invalid & blocks);
+            assert_eq!(CRC12.command(&spoilt(0x0000_8000)), 128);
+            assert_eq!(CRC12.command(&spoilt(0xFFFF_0000)), 0);
+            assert_eq!(FEC.command(&spoilt(0xFFFF_FFFF)), 0);
+        }
+    }
+
+    #[test]
+    fn an_invalid_header_reads_as_0() {
+        let spoilt = Headers::of_words(0x8000_0000, u32::MAX);
+        assert_eq!((CRC12.parity(&spoilt), CRC12.command(&spoilt)), (0x7FF, 0x7F));
+        assert_eq!(FEC.parity(&spoilt), 0x1FF_FFFF);
     }
 }

@@ -39,18 +39,18 @@ unfolding releasesOf
 released-are R lane = all-but-one R (bitAt lane) (receivedIn R lane)
 
 module _ (mode : ℕ) (lane : List ℕ) (is-known : known mode ≡ true) (whole : length lane % laneOctets (row mode .gap) ≡ 0)
-    (short : length lane ≤ laneOctets (row mode .gap) * row mode .most) (o s c p q o′ s′ c′ p′ q′ : List ℕ) (state : Receiver) (r : Received)
-    (e : kept r o′ s′ c′ p′ q′ ≡ entry mode state lane o s c p q) (es : state ≡ fresh)
-    (lo : length o ≡ 256 * mostOfAll) (ls : length s ≡ mostOfAll) (lc : length c ≡ mostOfAll) (lp : length p ≡ mostOfAll) (lq : length q ≡ mostOfAll) where
+    (short : length lane ≤ laneOctets (row mode .gap) * row mode .most) (o s c p q i o′ s′ c′ p′ q′ i′ : List ℕ) (state : Receiver) (r : Received)
+    (e : kept r o′ s′ c′ p′ q′ i′ ≡ entry mode state lane o s c p q i) (es : state ≡ fresh)
+    (lo : length o ≡ 256 * mostOfAll) (ls : length s ≡ mostOfAll) (lc : length c ≡ mostOfAll) (lp : length p ≡ mostOfAll) (lq : length q ≡ mostOfAll) (li : length i ≡ mostOfAll) where
   within : receivedIn (row mode) lane ≤ mostOfAll
   within = omega (arith, received-few mode lane short, few mode)
 
-  is-run : kept r o′ s′ c′ p′ q′ ≡ laidOut (run (row mode) (bitAt lane) fresh (receivedIn (row mode) lane)) o s c p q
+  is-run : kept r o′ s′ c′ p′ q′ i′ ≡ laidOut (run (row mode) (bitAt lane) fresh (receivedIn (row mode) lane)) o s c p q i
   is-run =
       e
-      ∙ ap (λ (x : Receiver). entry mode x lane o s c p q) es
-      ∙ all-received mode lane o s c p q is-known whole (received-few mode lane short)
-      (record { octets-fit = omega (arith, within); statuses-fit = omega (arith, within); commands-fit = omega (arith, within); places-fit = omega (arith, within); patterns-fit = omega (arith, within) })
+      ∙ ap (λ (x : Receiver). entry mode x lane o s c p q i) es
+      ∙ all-received mode lane o s c p q i is-known whole (received-few mode lane short)
+      (record { octets-fit = omega (arith, within); statuses-fit = omega (arith, within); commands-fit = omega (arith, within); places-fit = omega (arith, within); patterns-fit = omega (arith, within); invalid-fit = omega (arith, within) })
 
   number : r .count ≡ length (releasesOf (row mode) lane)
   unfolding releasesOf

@@ -28,6 +28,7 @@ fn receive(
 {
     let mut octets = [0u8; OCTETS];
     let mut commands = [0u32; modes::MOST];
+    let mut invalid = [0u8; modes::MOST];
     let received = receiver::receive(
         mode,
         Receiver::fresh(),
@@ -37,6 +38,7 @@ fn receive(
         &mut commands,
         places,
         patterns,
+        &mut invalid,
     );
     received.count
 }

@@ -12,7 +12,7 @@ use Rattle.bits.proofs.Octets.{bit-drop, bit-append}
 use Rattle.bits.proofs.Laid.{taken-back}
 use Rattle.frame.specs.declared.modes.Row.{Row}
 use Rattle.frame.specs.Modes.{row, parity, command}
-use Rattle.frame.specs.Lane.{laneOctets, headerPlace, dataPlace, dataBit, headerAt, syncBit, invalidBit}
+use Rattle.frame.specs.Lane.{laneOctets, headerPlace, dataPlace, dataBit, headerAt, syncBit, invalidHeaders}
 use Rattle.frame.specs.SyncWord.{readParity, flaggedCommand}
 use Rattle.frame.proofs.SyncWord.{Stands, place, all-stand, only-parity, only-flagged}
 use Rattle.frame.proofs.Lane.{laneFrom, same-sync, same-invalid}
@@ -25,11 +25,12 @@ use Rattle.receiver.proofs.Cut.{then, same-reading, run-cut}
 use Rattle.receiver.proofs.Answers.{all-run, all-whole}
 use Rattle.receiver.proofs.Buffers.{column-length}
 use Rattle.receiver.proofs.Numbered.{octets-append, column-append, none-out, none-column, all-full}
-use Rattle.demands.specs.Calls.{Receiving, receiving, laneHeard, AllHeard, octetsReleased, statusesReleased}
+use Rattle.demands.specs.Calls.{Receiving, receiving, laneHeard, AllHeard, octetsReleased, listReleased}
 use Rattle.demands.proofs.Places.{data-inside, header-inside}
 
-abbrev status : Release → ℕ
-status r = r .status
+-- a list of the answer that begins with a number of each release
+abbrev pub Lays : (Done → List ℕ) → (Release → ℕ) → Type 0
+Lays list f = (t : Step) (o s c p q i : List ℕ) → (old : List ℕ) × (list (laidOut t o s c p q i) ≡ laid (column f (t .out)) old)
 
 -- a lane from a multiblock on
 bits-from : (gap : ℕ) (lane : List ℕ) (k : ℕ) → bitAt (drop (laneOctets gap * k) lane) ≡ laneFrom gap (bitAt lane) k
@@ -57,7 +58,7 @@ module _ (mode : ℕ) where
         header-same (R .gap) (bitAt (a ++ b)) (bitAt a) m t (same (headerPlace (R .gap) m t) m h (omega arith)) (same (headerPlace (R .gap) m t + 1) m h inside)
 
     prefix : (s : Receiver) → run R (bitAt (a ++ b)) s k ≡ run R (bitAt a) s k
-    prefix s = same-reading R (bitAt (a ++ b)) (bitAt a) s k same-data same-parity same-command
+    prefix s = same-reading R (bitAt (a ++ b)) (bitAt a) s k same-data same-parity same-command same-number
       where
         stands : Stands (R .sync)
         stands = all-stand (row mode .sync)
@@ -66,18 +67,18 @@ module _ (mode : ℕ) where
         same-data m q h l =
             data-is (R .gap) (bitAt (a ++ b)) m q ∙ same (dataPlace (R .gap) m q) m h (data-inside (R .gap) m q l) ∙ sym (data-is (R .gap) (bitAt a) m q)
 
-        sync : (m t : ℕ) → m < k → t < 32 → syncBit (R .gap) (bitAt (a ++ b)) m t ≡ syncBit (R .gap) (bitAt a) m t
-        sync m t h l = same-sync (R .gap) (bitAt (a ++ b)) (bitAt a) m t (same-header m t h l)
-
         same-parity : (m : ℕ) → m < k → readParity (R .sync) (syncBit (R .gap) (bitAt (a ++ b)) m) ≡ readParity (R .sync) (syncBit (R .gap) (bitAt a) m)
-        same-parity m h = only-parity (R .sync) _ _ (λ j l. sync m (place (R .sync) (parity j)) h (stands .parities j l))
+        same-parity m h =
+            only-parity (R .sync) _ _
+            (λ j l. same-sync (R .gap) (bitAt (a ++ b)) (bitAt a) m (place (R .sync) (parity j)) (same-header m (place (R .sync) (parity j)) h (stands .parities j l)))
 
-        same-command : (m : ℕ) → m < k
-            → flaggedCommand (R .sync) (syncBit (R .gap) (bitAt (a ++ b)) m) (invalidBit (R .gap) (bitAt (a ++ b)) m) ≡ flaggedCommand (R .sync) (syncBit (R .gap) (bitAt a) m) (invalidBit (R .gap) (bitAt a) m)
+        same-command : (m : ℕ) → m < k → flaggedCommand (R .sync) (headerAt (R .gap) (bitAt (a ++ b)) m) ≡ flaggedCommand (R .sync) (headerAt (R .gap) (bitAt a) m)
         same-command m h =
-            only-flagged (R .sync) (syncBit (R .gap) (bitAt (a ++ b)) m) (syncBit (R .gap) (bitAt a) m) (invalidBit (R .gap) (bitAt (a ++ b)) m) (invalidBit (R .gap) (bitAt a) m)
-            (λ j l. sync m (place (R .sync) (command j)) h (stands .commands j l))
-            (λ j l. same-invalid (R .gap) (bitAt (a ++ b)) (bitAt a) m (place (R .sync) (command j)) (same-header m (place (R .sync) (command j)) h (stands .commands j l)))
+            only-flagged (R .sync) (headerAt (R .gap) (bitAt (a ++ b)) m) (headerAt (R .gap) (bitAt a) m)
+            (λ j l. same-header m (place (R .sync) (command j)) h (stands .commands j l))
+
+        same-number : (m : ℕ) → m < k → invalidHeaders (R .gap) (bitAt (a ++ b)) m ≡ invalidHeaders (R .gap) (bitAt a) m
+        same-number m h = same-invalid (R .gap) (bitAt (a ++ b)) (bitAt a) m (λ t l. same-header m t h l)
 
     -- a run over both
     both : (s : Receiver) (n : ℕ) → run R (bitAt (a ++ b)) s (k + n) ≡ then (run R (bitAt a) s k) (run R (bitAt b) (run R (bitAt a) s k .state) n)
@@ -91,7 +92,8 @@ module _ (mode : ℕ) where
   pub record AllRun (s : Receiver) (calls : List Receiving) : Type 0 where
     pub whole : length (laneHeard calls) ≡ L * (length (laneHeard calls) / L)
     pub octets : octetsReleased mode s calls ≡ octetsOut (run R (bitAt (laneHeard calls)) s (length (laneHeard calls) / L) .out)
-    pub statuses : statusesReleased mode s calls ≡ column status (run R (bitAt (laneHeard calls)) s (length (laneHeard calls) / L) .out)
+    pub lists : (list : Done → List ℕ) (f : Release → ℕ) → Lays list f
+        → listReleased mode list s calls ≡ column f (run R (bitAt (laneHeard calls)) s (length (laneHeard calls) / L) .out)
 
   module _ (s : Receiver) (c : Receiving) (z : receiving mode s c .answer .refusal ≡ 0) where
     k : ℕ
@@ -100,13 +102,13 @@ module _ (mode : ℕ) where
     abbrev ran : Step
     ran = run R (bitAt (c .lane)) s k
 
-    is : receiving mode s c ≡ laidOut ran (c .octets) (c .statuses) (c .commands) (c .places) (c .patterns)
+    is : receiving mode s c ≡ laidOut ran (c .octets) (c .statuses) (c .commands) (c .places) (c .patterns) (c .invalid)
     unfolding k
-    is = all-run mode s (c .lane) (c .octets) (c .statuses) (c .commands) (c .places) (c .patterns) z
+    is = all-run mode s (c .lane) (c .octets) (c .statuses) (c .commands) (c .places) (c .patterns) (c .invalid) z
 
     long : length (c .lane) ≡ L * k
     unfolding k
-    long = all-whole mode s (c .lane) (c .octets) (c .statuses) (c .commands) (c .places) (c .patterns) z
+    long = all-whole mode s (c .lane) (c .octets) (c .statuses) (c .commands) (c .places) (c .patterns) (c .invalid) z
 
     octets-taken : take (256 * receiving mode s c .answer .count) (receiving mode s c .octets) ≡ octetsOut (ran .out)
     octets-taken =
@@ -114,11 +116,12 @@ module _ (mode : ℕ) where
         ∙ ap (λ (n : ℕ). take n (laid (octetsOut (ran .out)) (c .octets))) (sym (all-full R (bitAt (c .lane)) s k))
         ∙ taken-back (octetsOut (ran .out)) (c .octets)
 
-    statuses-taken : take (receiving mode s c .answer .count) (receiving mode s c .statuses) ≡ column status (ran .out)
-    statuses-taken =
-        ap (λ (d : Done). take (d .answer .count) (d .statuses)) is
-        ∙ ap (λ (n : ℕ). take n (laid (column status (ran .out)) (c .statuses))) (sym (column-length status (ran .out)))
-        ∙ taken-back (column status (ran .out)) (c .statuses)
+    list-taken : (list : Done → List ℕ) (f : Release → ℕ) → Lays list f → take (receiving mode s c .answer .count) (list (receiving mode s c)) ≡ column f (ran .out)
+    list-taken list f lays =
+        let l = lays ran (c .octets) (c .statuses) (c .commands) (c .places) (c .patterns) (c .invalid) in
+        ap (λ (d : Done). take (d .answer .count) (list d)) is
+        ∙ ap₂ take (sym (column-length f (ran .out))) (l .1)
+        ∙ taken-back (column f (ran .out)) (l .0)
 
     module _ (calls : List Receiving) (rest : AllRun (receiving mode s c .answer .state) calls) where
       n : ℕ
@@ -150,14 +153,14 @@ module _ (mode : ℕ) where
             ap₂ _++_ octets-taken (rest .octets ∙ ap (λ (x : Step). octetsOut (x .out)) state-is)
             ∙ sym (octets-append (ran .out) (more .out))
             ∙ ap octetsOut (sym out-is);
-        statuses =
-            ap₂ _++_ statuses-taken (rest .statuses ∙ ap (λ (x : Step). column status (x .out)) state-is)
-            ∙ sym (column-append status (ran .out) (more .out))
-            ∙ ap (column status) (sym out-is);
+        lists = λ list f lays.
+            ap₂ _++_ (list-taken list f lays) (rest .lists list f lays ∙ ap (λ (x : Step). column f (x .out)) state-is)
+            ∙ sym (column-append f (ran .out) (more .out))
+            ∙ ap (column f) (sym out-is);
       }
 
   pub all-calls : (s : Receiver) (calls : List Receiving) → AllHeard mode s calls → AllRun s calls
-  all-calls s [] h = record { whole = sym (ap (λ (x : ℕ). L * x) none ∙ mul-zero L); octets = octets; statuses = statuses }
+  all-calls s [] h = record { whole = sym (ap (λ (x : ℕ). L * x) none ∙ mul-zero L); octets = octets; lists = λ list f lays. entries f }
     where
       none : 0 / L ≡ 0
       none = zero-div L
@@ -165,6 +168,6 @@ module _ (mode : ℕ) where
       octets : [] ≡ octetsOut (run R (bitAt []) s (0 / L) .out)
       octets = sym (ap (λ (n : ℕ). octetsOut (run R (bitAt []) s n .out)) none ∙ none-out R (bitAt []) s)
 
-      statuses : [] ≡ column status (run R (bitAt []) s (0 / L) .out)
-      statuses = sym (ap (λ (n : ℕ). column status (run R (bitAt []) s n .out)) none ∙ none-column status R (bitAt []) s)
+      entries : (f : Release → ℕ) → [] ≡ column f (run R (bitAt []) s (0 / L) .out)
+      entries f = sym (ap (λ (n : ℕ). column f (run R (bitAt []) s n .out)) none ∙ none-column f R (bitAt []) s)
   all-calls s (c ∷ calls) h = with-call s c (h .0) calls (all-calls (receiving mode s c .answer .state) calls (h .1))

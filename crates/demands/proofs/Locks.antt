@@ -10,23 +10,22 @@ use borrow.Author.Tests.{eq-eqb, ne-eqb}
 use lib.Dec.{eqb}
 use lib.ListN.{length, getD}
 use Rattle.bits.specs.Choice.{bitOf}
-use Rattle.bits.specs.Order.{bitAt}
 use Rattle.frame.specs.declared.modes.Sync.{Sync}
 use Rattle.frame.specs.declared.modes.Sync.the-variants.{Crc12}
 use Rattle.frame.specs.declared.modes.Row.{Row}
 use Rattle.frame.specs.Modes.{known, row}
-use Rattle.frame.specs.Headers.{carries, headerOf}
+use Rattle.frame.specs.Headers.{headerRead, carries, headerOf}
 use Rattle.frame.specs.Lane.{blockWidth, laneOctets}
 use Rattle.frame.specs.SyncWord.{held}
 use Rattle.frame.proofs.SyncWord.{fieldAt, held-lt}
-use Rattle.frame.proofs.Lane.{carried, header-valid}
+use Rattle.frame.proofs.Reading.{carried, header-valid}
 use Rattle.frame.proofs.Rows.{extent-fits}
 use Rattle.frame.proofs.Sizes.{width-some, octets-blocks}
 use Rattle.sender.specs.declared.Sender.{Sender}
 use Rattle.sender.specs.Lane.{lane, last}
 use Rattle.sender.proofs.States.{Fits}
 use Rattle.sender.proofs.Runs.{lane-length}
-use Rattle.sender.proofs.Multiblocks.{before, number-before, header-sent}
+use Rattle.sender.proofs.Multiblocks.{before, number-before, value-sent}
 use Rattle.lock.specs.declared.Lock.{Lock}
 use Rattle.lock.specs.Run.{stateAfter}
 use Rattle.lock.specs.Stream.{Crc12Headers, Held}
@@ -35,7 +34,7 @@ use Rattle.lock.proofs.Runs.{state-same}
 use Rattle.lock.proofs.Bound.{locked-in-time}
 use Rattle.demands.specs.Calls.{Sending, userOctets, AllSent, laneSent}
 use Rattle.demands.specs.Promises.{headersFrom}
-use Rattle.demands.proofs.Sent.{OneLane, one-lane, allCommands}
+use Rattle.demands.proofs.Sent.{one-lane, allCommands}
 
 module _ (mode E : ℕ) (is-known : known mode ≡ true) (crc : row mode .sync ≡ Crc12) (s : Sender) (user commands : List ℕ)
     (given : 256 * length commands ≤ length user) (fits : Fits (row mode) E s) (some : 1 ≤ E) (few : E ≤ 256) (p : ℕ) where
@@ -66,13 +65,13 @@ module _ (mode E : ℕ) (is-known : known mode ≡ true) (crc : row mode .sync �
   undamaged = record {
     valid = λ x. header-valid (sync x) (sync-lt x);
     sync =
-        words-fit E start some (λ m. state (m - s .number) .parity) (λ m. getD commands (m - s .number) 0) mark (λ x. carries (headerOf (sync x)))
+        words-fit E start some (λ m. state (m - s .number) .parity) (λ m. getD commands (m - s .number) 0) mark (λ x. carries (headerRead (headerOf (sync x))))
         (λ m e. ap bitOf (eq-eqb (m % E + 1) E (omega arith)))
         (λ m e. ap bitOf (ne-eqb (m % E + 1) E (λ z. e (omega arith))))
         (λ x. carried (sync x) (sync-lt x));
   }
 
-  -- where the lane has a header, it is this one
+  -- where the lane has a header, it has this value
   own : (x : ℕ) → p + x < 32 * length commands → headersFrom (R .gap) (lane R E s user commands) p x ≡ headerOf (sync x)
   unfolding sync mark start
   own x h =
@@ -81,7 +80,7 @@ module _ (mode E : ℕ) (is-known : known mode ≡ true) (crc : row mode .sync �
       let there : (x + (p + 32 * s .number)) / 32 ≡ s .number + m = omega arith in
       let counted : (x + (p + 32 * s .number)) / 32 - s .number ≡ m = omega arith in
       let position : (x + (p + 32 * s .number)) % 32 ≡ t = omega arith in
-      header-sent R E s user commands given m t (omega arith) (mod-lt (p + x) (omega arith))
+      value-sent R E s user commands given m t (omega arith) (mod-lt (p + x) (omega arith))
       ∙ ap (λ (S : Sync). headerOf (held (state m .parity) (getD commands m 0) (bitOf (last E (state m))) (fieldAt S t))) crc
       ∙ rw (counted, position, there, ← number-before R E s user commands given (fits .number) m (omega arith)) refl
 

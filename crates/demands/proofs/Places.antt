@@ -1,6 +1,6 @@
 -- Where a codeword's positions stand on a lane: further apart there than in the codeword, and all within two multiblocks. Over any gap and any
 -- layout whose parity bits stand in order. Assumes nothing.
-use mathlib.Core.Path.{_≡_, ap, _∙_}
+use mathlib.Core.Path.{_≡_}
 use Prim.Native.Nat.{ℕ, suc, _+_, _-_, _*_, _/_, _%_, _<_, _≤_}
 use native.Mathlib.Nat.{mul-add, mul-le-mul-left}
 use native.Mathlib.Omega.{arith}
@@ -45,6 +45,12 @@ header-inside g m t h =
     let e = start-form g (suc m) in
     let z = far g (headerBase m t + 1) (gaps m t) (headerBase (suc m) 0) (gaps (suc m) 0) 1 (headerPlace g m t + 1) (8 * laneOctets g * suc m)
     (omega (arith, header-form g m t)) (omega arith) (omega arith) (omega arith) in omega arith
+
+pub header-from-start : (g m t : ℕ) → 8 * laneOctets g * m ≤ headerPlace g m t
+header-from-start g m t =
+    let e = start-form g m in
+    let z = far g (headerBase m 0) (gaps m 0) (headerBase m t) (gaps m t) 0 (8 * laneOctets g * m) (headerPlace g m t)
+    (omega arith) (omega (arith, header-form g m t)) (omega arith) (omega arith) in omega arith
 
 -- bit x of the lane has a part in position c of the codeword of multiblock i
 pub data At (R : Row) (i c x : ℕ) : Type 0 where

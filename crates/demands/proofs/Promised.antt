@@ -1,25 +1,31 @@
 -- The promises of specs/Promises.antt, proved, in the same order. Assumes nothing.
-use mathlib.Core.Path.{_≡_, refl, sym, ap, _∙_}
+use mathlib.Core.Path.{_≡_, refl, sym, ap, _∙_, subst}
 use mathlib.Core.Logic.{_⊎_, ⊎-elim, inl, inr}
 use mathlib.Core.Bool.{Bool, true, false}
 use Prim.Native.Nat.{ℕ, zero, suc, _+_, _-_, _*_, _<_, _≤_}
 use native.Mathlib.Nat.{mul-le-mul-left}
 use native.Mathlib.Omega.{arith}
+use lib.Bits.{xor-lt}
 use Rattle.bits.specs.Order.{listFrom}
+use Rattle.bits.proofs.Numbers.{bitAt-lt}
+use Rattle.bits.proofs.Ones.{ones-none}
 use Rattle.parity.specs.Codeword.{Code}
 use Rattle.frame.specs.Modes.{code, repairs, row}
-use Rattle.frame.specs.Lane.{blockWidth, laneOctets, dataPlace}
+use Rattle.frame.specs.Lane.{blockWidth, laneOctets, headerPlace, dataPlace}
 use Rattle.parity.proofs.Bursts.{one-burst}
 use Rattle.parity.proofs.Sets.{one-set}
+use Rattle.frame.proofs.Reading.{invalid-flips}
 use Rattle.frame.proofs.Rows.{limit-some}
 use Rattle.judge.specs.Sound.{sound}
-use Rattle.demands.specs.Transfer.{Transfer, flips, DamagedBy, Untouched, releases, released, status, given}
-use Rattle.demands.specs.Promises.{Limits, FecDelivers, CrcTellsHits, CrcUntouchedSound, SoundTrue, FecSoundTrue, CrcSoundTrue, BurstsByPairs, OneBurst, OneSet, LocksInTime, DozenRight}
+use Rattle.demands.specs.Calls.{laneHeard}
+use Rattle.demands.specs.Transfer.{Transfer, flips, DamagedBy, Untouched, releases, released, status, given, headerFlips}
+use Rattle.demands.specs.Promises.{Limits, FecDelivers, CrcTellsHits, CrcUntouchedSound, SoundTrue, FecSoundTrue, CrcSoundTrue, InvalidTold, InvalidByFlips, UntouchedValid, BurstsByPairs, OneBurst, OneSet, LocksInTime, DozenRight}
+use Rattle.demands.proofs.Places.{header-inside, header-from-start}
 use Rattle.demands.proofs.Pairs.{pairs, in-bursts}
 use Rattle.demands.proofs.Locks.{locks-in-time}
 use Rattle.demands.proofs.Dozen.{all-right}
 use Rattle.demands.proofs.Delivered.{Lanes, Right, repairs-right, next-octet, hit-status, sound-octet, untouched-status}
-use Rattle.demands.proofs.Released.{count, lanes, all-released, status-at, octet-released}
+use Rattle.demands.proofs.Released.{before, after, count, sends-them, lanes, all-released, status-at, invalid-at, octet-released}
 
 pub limits : Limits
 unfolding listFrom row laneOctets blockWidth
@@ -84,6 +90,27 @@ fec-sound-true = all-sound-true true
 
 pub crc-sound-true : CrcSoundTrue
 crc-sound-true = all-sound-true false
+
+-- ---- invalid headers
+
+pub tells-invalid : InvalidTold
+tells-invalid mode E t i l = invalid-at t i (all-released t i l)
+
+pub invalid-by-flips : InvalidByFlips
+invalid-by-flips mode E t i l =
+    let next = all-released t i l in
+    subst (λ (x : ℕ). x ≤ headerFlips t i) (sym (tells-invalid mode E t i l))
+    (invalid-flips (row mode .gap) (before t) (after t) (sends-them t .bits) (bitAt-lt (laneHeard (t .receivings))) i (λ b h. sends-them t .valid i b (omega arith) h))
+
+pub untouched-valid : UntouchedValid
+untouched-valid mode E t i l u =
+    let g = row mode .gap in
+    let bits : (x : ℕ) → flips t x < 2 = λ x. xor-lt 1 (before t x) (after t x) (sends-them t .bits x) (bitAt-lt (laneHeard (t .receivings)) x) in
+    let clear : (x : ℕ) → 8 * laneOctets g * i ≤ x → x < 8 * laneOctets g * suc i → flips t x ≡ 0 =
+    λ x a b. u x a (subst (λ (n : ℕ). x < 8 * laneOctets g * n) {x = suc i} {y = i + 1} (omega arith) b) in
+    let firsts = ones-none (λ b. flips t (headerPlace g i b)) (λ b. bits (headerPlace g i b)) 32 (λ b h. clear _ (header-from-start g i b) (omega (arith, header-inside g i b h))) in
+    let seconds = ones-none (λ b. flips t (headerPlace g i b + 1)) (λ b. bits (headerPlace g i b + 1)) 32 (λ b h. clear _ (omega (arith, header-from-start g i b)) (header-inside g i b h)) in
+    omega (arith, invalid-by-flips mode E t i l, firsts, seconds)
 
 -- ---- the premise, burst uniqueness, the locks, the dozen
 

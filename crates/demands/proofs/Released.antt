@@ -1,25 +1,24 @@
 -- A transfer's answers, by number: octet j and status of release i are those of the run over all multiblocks heard. Assumes nothing.
 use mathlib.Core.Path.{_≡_, refl, sym, ap, _∙_, subst}
 use mathlib.Core.List.{List}
-use Prim.Native.Nat.{ℕ, zero, suc, _+_, _-_, _*_, _/_, _<_, _≤_}
+use Prim.Native.Nat.{ℕ, suc, _+_, _-_, _*_, _/_, _<_, _≤_}
 use native.Mathlib.Nat.{mul-add, mul-assoc, le-of-mul-le-mul-left}
 use native.Mathlib.Omega.{arith}
-use lib.Bits.{bitXor}
 use lib.ListN.{length, getD}
 use Rattle.bits.specs.Order.{bitAt}
 use Rattle.bits.proofs.Numbers.{bitAt-lt}
 use Rattle.frame.specs.declared.modes.Row.{Row}
 use Rattle.frame.specs.Modes.{row}
-use Rattle.frame.specs.Lane.{laneOctets}
+use Rattle.frame.specs.Lane.{laneOctets, invalidHeaders}
 use Rattle.frame.proofs.Lane.{laneFrom}
 use Rattle.frame.proofs.Sizes.{octets-some}
 use Rattle.sender.proofs.Runs.{lane-length}
 use Rattle.receiver.specs.Release.{Release, fresh, releaseAt, run}
 use Rattle.receiver.proofs.Afresh.{all-but-one}
 use Rattle.receiver.proofs.Buffers.{column-length, release-length}
-use Rattle.receiver.proofs.Numbered.{nth, waiting, numbered, octet-at, column-at}
+use Rattle.receiver.proofs.Numbered.{nth, waiting, invalid-is, numbered, octet-at, column-at}
 use Rattle.demands.specs.Calls.{userOctets, laneSent, laneHeard}
-use Rattle.demands.specs.Transfer.{Transfer, flips, DamagedBy, releases, released, status}
+use Rattle.demands.specs.Transfer.{Transfer, flips, DamagedBy, releases, released, status, invalidTold}
 use Rattle.demands.specs.Damage.{Pairwise}
 use Rattle.demands.proofs.Pairs.{pairs}
 use Rattle.demands.proofs.Heard.{AllRun, all-calls}
@@ -94,7 +93,7 @@ module _ {mode E : ℕ} (t : Transfer mode E) where
   pub all-released : (i : ℕ) → i < releases t → suc i < count
   unfolding out
   all-released i h =
-      let e : releases t ≡ length out = ap length (all-run .statuses) ∙ column-length (λ (r : Release). r .status) out in
+      let e : releases t ≡ length out = ap length (all-run .lists _ (λ (r : Release). r .status) (λ x o s c p q i. (s, refl))) ∙ column-length (λ (r : Release). r .status) out in
       omega (arith, out-length)
 
   module _ (i : ℕ) (l : suc i < count) where
@@ -107,9 +106,17 @@ module _ {mode E : ℕ} (t : Transfer mode E) where
     pub status-at : status t i ≡ releaseAt R after (suc i) (waiting R after i) .status
     unfolding out
     status-at =
-        ap (λ (x : List ℕ). getD x i 0) (all-run .statuses)
+        ap (λ (x : List ℕ). getD x i 0) (all-run .lists _ (λ (r : Release). r .status) (λ x o s c p q i. (s, refl)))
         ∙ column-at (λ (r : Release). r .status) out i (omega (arith, out-length))
         ∙ ap (λ (r : Release). r .status) (at i l)
+
+    pub invalid-at : invalidTold t i ≡ invalidHeaders (R .gap) after i
+    unfolding out
+    invalid-at =
+        ap (λ (x : List ℕ). getD x i 0) (all-run .lists _ (λ (r : Release). r .invalid) (λ x o s c p q v. (v, refl)))
+        ∙ column-at (λ (r : Release). r .invalid) out i (omega (arith, out-length))
+        ∙ ap (λ (r : Release). r .invalid) (at i l)
+        ∙ invalid-is R after i
 
     pub octet-released : (j : ℕ) → j < 256 → released t i j ≡ getD (releaseAt R after (suc i) (waiting R after i) .octets) j 0
     unfolding out

@@ -1,6 +1,7 @@
 -- Calls of the sender, one after another, make together one lane, and what each multiblock of it carries: document 01, "From octets to lane
 -- bits". Assumes nothing.
 use mathlib.Core.Path.{_≡_, refl, sym, ap, ap₂, _∙_, subst, fun-ext}
+use mathlib.Core.Bool.{false}
 use mathlib.Core.List.{List, [], _∷_, _++_}
 use Prim.Native.Nat.{ℕ, suc, _+_, _-_, _*_, _<_, _≤_}
 use native.Mathlib.Nat.{mul-zero, mul-add}
@@ -13,18 +14,18 @@ use Rattle.scrambler.specs.Scrambling.{sent}
 use Rattle.parity.specs.Codeword.{parityOf}
 use Rattle.frame.specs.declared.modes.Row.{Row}
 use Rattle.frame.specs.Modes.{code, row, parity}
-use Rattle.frame.specs.Lane.{laneOctets, dataBit, syncBit, dataOctets}
+use Rattle.frame.specs.Headers.{invalid}
+use Rattle.frame.specs.Lane.{laneOctets, dataBit, headerAt, syncBit, dataOctets}
 use Rattle.frame.specs.SyncWord.{readParity}
-use Rattle.frame.proofs.SyncWord.{all-stand, place, only-parity}
-use Rattle.frame.proofs.Lane.{laneFrom, data-moved, sync-moved, octets-moved}
-use Rattle.frame.proofs.Rows.{proper}
+use Rattle.frame.proofs.SyncWord.{place, only-parity}
+use Rattle.frame.proofs.Lane.{laneFrom, data-moved, header-at-moved, sync-moved, octets-moved}
 use Rattle.sender.specs.declared.Sender.{Sender}
 use Rattle.sender.specs.Lane.{lane, after}
 use Rattle.sender.specs.Refusal.{refusalOf}
 use Rattle.sender.proofs.States.{Fits}
 use Rattle.sender.proofs.Runs.{lane-join, lane-length}
 use Rattle.sender.proofs.Entry.{answered, returned, counted, written, whole, blocks, fits}
-use Rattle.sender.proofs.Multiblocks.{data-sent, parity-sent}
+use Rattle.sender.proofs.Multiblocks.{data-sent, valid-sent, parity-sent}
 use Rattle.demands.specs.Calls.{Sending, sending, userOctets, AllSent, laneSent}
 use Rattle.demands.proofs.Wrong.{Bits}
 
@@ -84,6 +85,7 @@ module _ (mode E : ℕ) where
 pub record Sends (R : Row) (user : List ℕ) (history first n : ℕ) (lane : ℕ → ℕ) : Type 0 where
   pub bits : Bits lane
   pub data-bits : (i q : ℕ) → i < n → q < 2048 → dataBit (R .gap) lane i q ≡ sent (bitAt user) history (2048 * (first + i) + q)
+  pub valid : (i t : ℕ) → i < n → t < 32 → invalid (headerAt (R .gap) lane i t) ≡ false
   pub parities : (i : ℕ) → suc i < n → readParity (R .sync) (syncBit (R .gap) lane (suc i)) ≡ parityOf (code (R .sync)) (dataOctets (R .gap) lane i)
 
 module _ (gap : ℕ) (lane : ℕ → ℕ) (a b : ℕ) where
@@ -93,6 +95,10 @@ module _ (gap : ℕ) (lane : ℕ → ℕ) (a b : ℕ) where
   pub data-from : (q : ℕ) → dataBit gap (laneFrom gap lane a) b q ≡ dataBit gap lane (a + b) q
   data-from q =
       data-moved gap (laneFrom gap lane a) b q ∙ ap (λ (f : ℕ → ℕ). dataBit gap f 0 q) further ∙ sym (data-moved gap lane (a + b) q)
+
+  pub header-from : (t : ℕ) → headerAt gap (laneFrom gap lane a) b t ≡ headerAt gap lane (a + b) t
+  header-from t =
+      header-at-moved gap (laneFrom gap lane a) b t ∙ ap (λ (f : ℕ → ℕ). headerAt gap f 0 t) further ∙ sym (header-at-moved gap lane (a + b) t)
 
   pub sync-from : (t : ℕ) → syncBit gap (laneFrom gap lane a) b t ≡ syncBit gap lane (a + b) t
   sync-from t =
@@ -123,6 +129,8 @@ sends mode E s calls one first n inside = subst (λ (l : List ℕ). Sends R user
       data-bits = λ i q h l.
           data-from (R .gap) (bitAt all) first i q
           ∙ data-sent R E s user (allCommands calls) enough (one .ready (omega arith) .0 .history) (first + i) q (omega arith) l;
+      valid = λ i t h l.
+          ap invalid (header-from (R .gap) (bitAt all) first i t) ∙ valid-sent R E s user (allCommands calls) enough (first + i) t (omega arith) l;
       parities = λ i h.
           only-parity (R .sync) (syncBit (R .gap) (laneFrom (R .gap) (bitAt all) first) (suc i)) (syncBit (R .gap) (bitAt all) (suc (first + i)))
           (λ k l. sync-from (R .gap) (bitAt all) first (suc i) (place (R .sync) (parity k)) ∙ ap (λ (m : ℕ). syncBit (R .gap) (bitAt all) m (place (R .sync) (parity k))) {x = first + suc i} {y = suc (first + i)} (omega arith))

@@ -38,7 +38,7 @@ module _ (mode E : ℕ) where
 
 -- ---- the receiver's
 
--- what one call is given: lane octets, and the five lent buffers
+-- what one call is given: lane octets, and the six lent buffers
 pub record Receiving : Type 0 where
   pub lane : List ℕ
   pub octets : List ℕ
@@ -46,6 +46,7 @@ pub record Receiving : Type 0 where
   pub commands : List ℕ
   pub places : List ℕ
   pub patterns : List ℕ
+  pub invalid : List ℕ
 
 abbrev pub laneHeard : List Receiving → List ℕ
 laneHeard [] = []
@@ -53,17 +54,24 @@ laneHeard (c ∷ calls) = c .lane ++ laneHeard calls
 
 module _ (mode : ℕ) where
   abbrev pub receiving : Receiver → Receiving → receiver.Done
-  receiving s c = receiver.entry mode s (c .lane) (c .octets) (c .statuses) (c .commands) (c .places) (c .patterns)
+  receiving s c = receiver.entry mode s (c .lane) (c .octets) (c .statuses) (c .commands) (c .places) (c .patterns) (c .invalid)
 
   abbrev pub AllHeard : Receiver → List Receiving → Type 0
   AllHeard s [] = Unit {0}
   AllHeard s (c ∷ calls) = (receiving s c .answer .refusal ≡ 0) × AllHeard (receiving s c .answer .state) calls
 
-  -- all octets and statuses released: of each call as many as its count says
+  -- all octets released: of each call as many as its count says
   abbrev pub octetsReleased : Receiver → List Receiving → List ℕ
   octetsReleased s [] = []
   octetsReleased s (c ∷ calls) = take (256 * receiving s c .answer .count) (receiving s c .octets) ++ octetsReleased (receiving s c .answer .state) calls
 
+  -- and of a list with one entry for each release
+  abbrev pub listReleased : (receiver.Done → List ℕ) → Receiver → List Receiving → List ℕ
+  listReleased list s [] = []
+  listReleased list s (c ∷ calls) = take (receiving s c .answer .count) (list (receiving s c)) ++ listReleased list (receiving s c .answer .state) calls
+
   abbrev pub statusesReleased : Receiver → List Receiving → List ℕ
-  statusesReleased s [] = []
-  statusesReleased s (c ∷ calls) = take (receiving s c .answer .count) (receiving s c .statuses) ++ statusesReleased (receiving s c .answer .state) calls
+  statusesReleased = listReleased (λ (d : receiver.Done). d .statuses)
+
+  abbrev pub invalidReleased : Receiver → List Receiving → List ℕ
+  invalidReleased = listReleased (λ (d : receiver.Done). d .invalid)

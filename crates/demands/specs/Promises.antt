@@ -10,14 +10,14 @@ use Rattle.parity.specs.Codeword.{Code, fec, remainderOf}
 use Rattle.parity.specs.Bursts.{BurstSet, IsBurst, flips as burstFlips}
 use Rattle.frame.specs.declared.modes.Sync.the-variants.{Crc12}
 use Rattle.frame.specs.Modes.{code, repairs, rows, known, row}
-use Rattle.frame.specs.Lane.{blockWidth, laneOctets, dataPlace, headerAt}
+use Rattle.frame.specs.Lane.{blockWidth, laneOctets, dataPlace, valueAt, invalidHeaders}
 use Rattle.sender.specs.declared.Sender.{Sender}
 use Rattle.judge.specs.Sound.{sound}
 use Rattle.lock.specs.Run.{stateAfter}
 use Rattle.lock.specs.Stream.{Held}
 use Rattle.demands.specs.Damage.{InBursts, Pairwise}
-use Rattle.demands.specs.Calls.{Sending, AllSent, laneSent}
-use Rattle.demands.specs.Transfer.{Transfer, flips, DamagedBy, Untouched, releases, released, status, given}
+use Rattle.demands.specs.Calls.{Sending, AllSent, laneSent, laneHeard}
+use Rattle.demands.specs.Transfer.{Transfer, flips, DamagedBy, Untouched, releases, released, status, invalidTold, given, headerFlips}
 use Rattle.demands.specs.Dozen.{Case, Right, dozen}
 
 -- ---- demand 3's bursts, read off the mode's row
@@ -71,6 +71,21 @@ FecSoundTrue = SoundTrue true
 abbrev pub CrcSoundTrue : Type 0
 CrcSoundTrue = SoundTrue false
 
+-- ---- invalid headers (request 1), with any bits flipped
+
+-- a released number is that of its own multiblock on the lane heard
+abbrev pub InvalidTold : Type 0
+InvalidTold =
+    (mode E : ℕ) (t : Transfer mode E) (i : ℕ) → i < releases t → invalidTold t i ≡ invalidHeaders (row mode .gap) (bitAt (laneHeard (t .receivings))) i
+
+-- it is at most the number of bits flipped in the headers
+abbrev pub InvalidByFlips : Type 0
+InvalidByFlips = (mode E : ℕ) (t : Transfer mode E) (i : ℕ) → i < releases t → invalidTold t i ≤ headerFlips t i
+
+-- and 0 where the multiblock was untouched
+abbrev pub UntouchedValid : Type 0
+UntouchedValid = (mode E : ℕ) (t : Transfer mode E) (i : ℕ) → i < releases t → Untouched t i (i + 1) → invalidTold t i ≡ 0
+
 -- ---- the premise by bursts and by pairs says the same, where two bursts are no longer than the clear bits
 
 abbrev pub BurstsByPairs : Type 0
@@ -92,9 +107,9 @@ OneSet =
 
 -- ---- the locks
 
--- the headers of a lane, from its block p on
+-- the values of the headers of a lane, from its block p on
 abbrev pub headersFrom : ℕ → List ℕ → ℕ → ℕ → ℕ
-headersFrom gap lane p x = headerAt gap (bitAt lane) ((p + x) / 32) ((p + x) % 32)
+headersFrom gap lane p x = valueAt gap (bitAt lane) ((p + x) / 32) ((p + x) % 32)
 
 -- a CRC-12 lane that our sender made, fed from fresh at its true offset from any block of it, holds both locks after at most 95 + 128E blocks
 -- and at every block after, as far as the lane goes

@@ -2,16 +2,17 @@
 -- in bursts. Assumes nothing.
 use mathlib.Core.Path.{_≡_}
 use mathlib.Core.List.{List}
-use Prim.Native.Nat.{ℕ, _+_, _*_, _/_, _≤_, _<_}
+use Prim.Native.Nat.{ℕ, _+_, _*_, _≤_, _<_}
 use lib.Bits.{bitXor}
+use lib.Count.{ones}
 use lib.ListN.{length, getD}
-use Rattle.bits.specs.Order.{bitAt}
+use Rattle.bits.specs.Order.{bitAt, number}
 use Rattle.frame.specs.Modes.{row}
-use Rattle.frame.specs.Lane.{laneOctets}
+use Rattle.frame.specs.Lane.{laneOctets, headerPlace}
 use Rattle.sender.specs.declared.Sender.{Sender}
 use Rattle.receiver.specs.Release.{fresh}
 use Rattle.demands.specs.Damage.{InBursts}
-use Rattle.demands.specs.Calls.{Sending, Receiving, userOctets, AllSent, laneSent, laneHeard, AllHeard, octetsReleased, statusesReleased}
+use Rattle.demands.specs.Calls.{Sending, Receiving, userOctets, AllSent, laneSent, laneHeard, AllHeard, octetsReleased, statusesReleased, invalidReleased}
 
 pub record Transfer (mode E : ℕ) : Type 0 where
   -- any accepted calls of one mode and E; user octets are octets
@@ -41,12 +42,20 @@ module _ {mode E : ℕ} (t : Transfer mode E) where
   abbrev pub releases : ℕ
   releases = length (statusesReleased mode fresh (t .receivings))
 
-  -- octet j and status of release i, and octet j of the multiblock sent there
+  -- octet j, status and number of invalid headers of release i, and octet j of the multiblock sent there
   abbrev pub released : ℕ → ℕ → ℕ
   released i j = getD (octetsReleased mode fresh (t .receivings)) (256 * i + j) 0
 
   abbrev pub status : ℕ → ℕ
   status i = getD (statusesReleased mode fresh (t .receivings)) i 0
 
+  abbrev pub invalidTold : ℕ → ℕ
+  invalidTold i = getD (invalidReleased mode fresh (t .receivings)) i 0
+
   abbrev pub given : ℕ → ℕ → ℕ
   given i j = getD (userOctets (t .sendings)) (256 * (t .from + i) + j) 0
+
+  -- how many bits were flipped in the headers of multiblock i: of their first bits, and of their second
+  abbrev pub headerFlips : ℕ → ℕ
+  headerFlips i =
+      ones (number (λ b. flips (headerPlace (row mode .gap) i b)) 0 32) + ones (number (λ b. flips (headerPlace (row mode .gap) i b + 1)) 0 32)

@@ -2,7 +2,7 @@
 -- 7.1.3 and 7.2.2, over any gap between the data octets of a block. Assumes nothing.
 use mathlib.Core.Bool.{Bool, true, false}
 use mathlib.Core.List.{List}
-use mathlib.Core.Path.{_≡_, refl, ap, ap₂, _∙_}
+use mathlib.Core.Path.{_≡_, ap, ap₂, _∙_}
 use Prim.Native.Nat.{ℕ, zero, suc, _+_, _-_, _*_, _/_, _%_, _≤_, _<_}
 use native.Mathlib.Nat.{add-zero, add-mul, mul-add, mul-assoc, mul-suc, mul-le-mul-left, mul-add-div, mul-add-mod-self-left, div-eq-of-lt, mod-eq-of-lt, div-add-mod'}
 use native.Mathlib.Omega.{arith}
@@ -11,11 +11,11 @@ use lib.Dec.{eqb, ltb}
 use lib.ListN.{length, getD, take}
 use Rattle.bits.specs.Choice.{pick}
 use Rattle.bits.specs.Order.{bitAt, digit}
-use Rattle.bits.proofs.Xor.{bit-cases}
 use Rattle.bits.proofs.Numbers.{bitAt-lt, digit-lt}
 use Rattle.bits.proofs.Octets.{length-octetsOf, bit-octetsOf, octetsOf-ext, octetsOf-bits}
-use Rattle.frame.specs.Headers.{value, carries, invalid, headerOf}
-use Rattle.frame.specs.Lane.{blockWidth, laneOctets, headerPlace, dataPlace, dataBit, headerAt, syncBit, invalidBit, dataOctets, blockBit, multiblockBit, multiblock}
+use Rattle.frame.specs.Headers.{value, headerRead, carries, headerOf}
+use Rattle.frame.specs.Lane.{blockWidth, laneOctets, headerPlace, dataPlace, dataBit, firstBit, secondBit, valueAt, headerAt, syncBit, invalidHeaders, dataOctets, blockBit, multiblockBit, multiblock}
+use Rattle.frame.proofs.Reading.{carries-lt, invalid-le, among-same, carried}
 
 -- ---- a place of a run of blocks: its block, and where in the block
 
@@ -88,31 +88,25 @@ pub dataBit-lt : (gap : ℕ) (lane : ℕ → ℕ) → ((k : ℕ) → lane k < 2)
 unfolding dataBit
 dataBit-lt gap lane bits m q = bits (dataPlace gap m q)
 
-pub header-lt : (gap : ℕ) (lane : ℕ → ℕ) → ((k : ℕ) → lane k < 2) → (m t : ℕ) → headerAt gap lane m t < 4
-unfolding headerAt value
-header-lt gap lane bits m t = omega (arith, bits (headerPlace gap m t), bits (headerPlace gap m t + 1))
-
 pub syncBit-lt : (gap : ℕ) (lane : ℕ → ℕ) (m t : ℕ) → syncBit gap lane m t < 2
-unfolding syncBit carries
-syncBit-lt gap lane m t = pick-lt (eqb (headerAt gap lane m t) 1) (omega arith) (omega arith)
+unfolding syncBit
+syncBit-lt gap lane m t = carries-lt (headerAt gap lane m t)
 
-pub invalidBit-lt : (gap : ℕ) (lane : ℕ → ℕ) (m t : ℕ) → invalidBit gap lane m t < 2
-unfolding invalidBit invalid
-invalidBit-lt gap lane m t = pick-lt (eqb (headerAt gap lane m t) 1) (omega arith) (pick-lt (eqb (headerAt gap lane m t) 2) (omega arith) (omega arith))
+-- a header is what its value reads as
+pub header-by-value : (gap : ℕ) (lane : ℕ → ℕ) (m t v : ℕ) → valueAt gap lane m t ≡ v → headerAt gap lane m t ≡ headerRead v
+unfolding headerAt
+header-by-value gap lane m t v e = ap headerRead e
+
+-- no more headers are invalid than there are
+pub invalid-at-le : (gap : ℕ) (lane : ℕ → ℕ) (m : ℕ) → invalidHeaders gap lane m ≤ 32
+unfolding invalidHeaders
+invalid-at-le gap lane m = invalid-le (headerAt gap lane m)
 
 -- ---- what was written reads back
 
 header-halves : (h : ℕ) → value (h / 2) (h % 2) ≡ h
 unfolding value
 header-halves h = div-add-mod' h 2
-
-pub carried : (b : ℕ) → b < 2 → carries (headerOf b) ≡ b
-unfolding carries headerOf
-carried b h = bit-cases (λ (b : ℕ). carries (headerOf b) ≡ b) refl refl b h
-
-pub header-valid : (b : ℕ) → b < 2 → invalid (headerOf b) ≡ 0
-unfolding invalid headerOf
-header-valid b h = bit-cases (λ (b : ℕ). invalid (headerOf b) ≡ 0) refl refl b h
 
 -- a lane that begins with a multiblock
 module _ (gap sync : ℕ) (octets : List ℕ) (lane : ℕ → ℕ) (begins : (x : ℕ) → x < 8 * laneOctets gap → lane x ≡ multiblockBit gap sync octets x) where
@@ -132,20 +126,16 @@ module _ (gap sync : ℕ) (octets : List ℕ) (lane : ℕ → ℕ) (begins : (x 
       ∙ block-data gap (digit 32 sync b) (λ q. bitAt octets (64 * b + q)) r
       ∙ ap (bitAt octets) (omega arith)
 
-  pub header-back : (t : ℕ) → t < 32 → headerAt gap lane 0 t ≡ headerOf (digit 32 sync t)
-  unfolding headerAt headerPlace blockBit
-  header-back t h =
+  pub value-back : (t : ℕ) → t < 32 → valueAt gap lane 0 t ≡ headerOf (digit 32 sync t)
+  unfolding valueAt firstBit secondBit headerPlace blockBit
+  value-back t h =
       let first : lane (blockWidth gap * (32 * 0 + t)) ≡ headerOf (digit 32 sync t) / 2 = ap lane (omega (arith, start t)) ∙ lane-at t 0 h (omega (arith, width gap)) in
       let second : lane (blockWidth gap * (32 * 0 + t) + 1) ≡ headerOf (digit 32 sync t) % 2 = ap lane (omega (arith, start t)) ∙ lane-at t 1 h (omega (arith, width gap)) in
       ap₂ value first second ∙ header-halves (headerOf (digit 32 sync t))
 
   pub sync-back : (t : ℕ) → t < 32 → syncBit gap lane 0 t ≡ digit 32 sync t
-  unfolding syncBit
-  sync-back t h = ap carries (header-back t h) ∙ carried (digit 32 sync t) (digit-lt 32 sync t)
-
-  pub valid-back : (t : ℕ) → t < 32 → invalidBit gap lane 0 t ≡ 0
-  unfolding invalidBit
-  valid-back t h = ap invalid (header-back t h) ∙ header-valid (digit 32 sync t) (digit-lt 32 sync t)
+  unfolding syncBit headerAt
+  sync-back t h = ap (λ (v : ℕ). carries (headerRead v)) (value-back t h) ∙ carried (digit 32 sync t) (digit-lt 32 sync t)
 
   pub octets-back : ((j : ℕ) → j < 256 → getD octets j 0 < 256) → 256 ≤ length octets → dataOctets gap lane 0 ≡ take 256 octets
   unfolding dataOctets
@@ -168,17 +158,21 @@ module _ (gap : ℕ) (lane : ℕ → ℕ) (m : ℕ) where
   unfolding dataBit dataPlace
   data-moved q = ap lane (omega (arith, header-moved (q / 64)))
 
+  pub value-moved : (t : ℕ) → valueAt gap lane m t ≡ valueAt gap (laneFrom gap lane m) 0 t
+  unfolding valueAt firstBit secondBit
+  value-moved t = ap₂ (λ (x y : ℕ). value (lane x) (lane y)) (header-moved t) (omega (arith, header-moved t))
+
   pub header-at-moved : (t : ℕ) → headerAt gap lane m t ≡ headerAt gap (laneFrom gap lane m) 0 t
   unfolding headerAt
-  header-at-moved t = ap₂ (λ (x y : ℕ). value (lane x) (lane y)) (header-moved t) (omega (arith, header-moved t))
+  header-at-moved t = ap headerRead (value-moved t)
 
   pub sync-moved : (t : ℕ) → syncBit gap lane m t ≡ syncBit gap (laneFrom gap lane m) 0 t
   unfolding syncBit
   sync-moved t = ap carries (header-at-moved t)
 
-  pub invalid-moved : (t : ℕ) → invalidBit gap lane m t ≡ invalidBit gap (laneFrom gap lane m) 0 t
-  unfolding invalidBit
-  invalid-moved t = ap invalid (header-at-moved t)
+  pub invalid-moved : invalidHeaders gap lane m ≡ invalidHeaders gap (laneFrom gap lane m) 0
+  unfolding invalidHeaders
+  invalid-moved = among-same (headerAt gap lane m) (headerAt gap (laneFrom gap lane m) 0) (λ t h. header-at-moved t)
 
   pub octets-moved : dataOctets gap lane m ≡ dataOctets gap (laneFrom gap lane m) 0
   unfolding dataOctets
@@ -191,14 +185,13 @@ module _ (gap : ℕ) (f g : ℕ → ℕ) (m : ℕ) where
   unfolding dataOctets
   same-octets h = octetsOf-ext (dataBit gap f m) (dataBit gap g m) 256 (λ q l. h q (omega arith))
 
-  module _ (t : ℕ) (e : headerAt gap f m t ≡ headerAt gap g m t) where
-    pub same-sync : syncBit gap f m t ≡ syncBit gap g m t
-    unfolding syncBit
-    same-sync = ap carries e
+  pub same-sync : (t : ℕ) → headerAt gap f m t ≡ headerAt gap g m t → syncBit gap f m t ≡ syncBit gap g m t
+  unfolding syncBit
+  same-sync t e = ap carries e
 
-    pub same-invalid : invalidBit gap f m t ≡ invalidBit gap g m t
-    unfolding invalidBit
-    same-invalid = ap invalid e
+  pub same-invalid : ((t : ℕ) → t < 32 → headerAt gap f m t ≡ headerAt gap g m t) → invalidHeaders gap f m ≡ invalidHeaders gap g m
+  unfolding invalidHeaders
+  same-invalid e = among-same (headerAt gap f m) (headerAt gap g m) e
 
 pub length-data : (gap : ℕ) (lane : ℕ → ℕ) (m : ℕ) → length (dataOctets gap lane m) ≡ 256
 unfolding dataOctets

@@ -5,5 +5,6 @@ pub mod Lane
 pub mod Packing
 pub mod Sizes
 pub mod Places
-pub mod Headers
+pub mod Reading
 pub mod Rows
+pub mod Seen

@@ -3,23 +3,24 @@
 use mathlib.Core.Bool.{Bool, true, false}
 use mathlib.Core.List.{List}
 use mathlib.Core.Path.{_≡_, refl, sym, ap, ap₂, _∙_, subst}
-use Prim.Native.Nat.{ℕ, zero, suc, _+_, _-_, _*_, _/_, _%_, _^_, _≤_, _<_}
+use Prim.Native.Nat.{ℕ, _+_, _-_, _*_, _/_, _%_, _^_, _≤_, _<_}
 use native.Mathlib.Nat.{add-zero, zero-add, add-mul, mul-assoc, mul-mod-left, mod-eq-of-lt, div-add-mod'}
 use native.Mathlib.Omega.{arith}
 use borrow.Author.Tests.{eq-eqb, ne-eqb}
-use lib.Bits.{bitAnd, bitOr, bitXor, and-mask, or-shifted, xor-lt}
+use lib.Bits.{bitAnd, bitOr, and-mask, or-shifted}
 use lib.Dec.{eqb, lit≤}
 use lib.ListN.{length, getD, take}
 use lib.Pow.{pow-add, high, low, field, mod-pow-add, mod-mod-pow, shl-exact, shl-lt, shl-shr, shr-lt, shr-shr}
 use Rattle.bits.specs.Choice.{pick}
 use Rattle.bits.specs.Order.{bitAt, digit, number, octetsOf, wordBit, laid}
-use Rattle.bits.proofs.Numbers.{digit-at, number-more, number-two, number-ones, number-split, number-lt, number-low, number-high, number-ext, number-and, number-xor, digit-number, number-digit}
+use Rattle.bits.proofs.Numbers.{digit-at, number-more, number-two, number-split, number-lt, number-low, number-high, number-ext, digit-number, number-digit}
 use Rattle.bits.proofs.Octets.{length-octetsOf, bit-octetsOf, bit-take}
 use Rattle.bits.proofs.Laid.{laid-all}
 use Rattle.bits.proofs.WordLists.{wordBit-lt, number-word}
-use Rattle.frame.specs.Headers.{value, carries, invalid, headerOf}
-use Rattle.frame.specs.Lane.{blockWidth, laneOctets, headerPlace, dataPlace, headerAt, syncBit, invalidBit, dataBit, dataOctets, blockBit, multiblockBit, multiblock}
-use Rattle.frame.proofs.Lane.{header-lt, multiblockBit-lt, multiblock-at, block-data, same-octets, same-sync, same-invalid}
+use Rattle.frame.specs.Headers.{headerOf}
+use Rattle.frame.specs.Lane.{blockWidth, laneOctets, headerPlace, dataPlace, firstBit, secondBit, dataBit, dataOctets, blockBit, multiblockBit, multiblock}
+use Rattle.frame.proofs.Lane.{multiblockBit-lt, multiblock-at, block-data, same-octets}
+use Rattle.frame.proofs.Reading.{first-lt, second-lt}
 
 -- a shift left drops what leaves the word, and so do two
 shift-left : (x t : ℕ) → t ≤ 64 → x * 2 ^ t % 2 ^ 64 ≡ x % 2 ^ (64 - t) * 2 ^ t
@@ -59,13 +60,6 @@ two-words word next t h ht =
     ∙ ap₂ (λ (x y : ℕ). v / 2 ^ x % 2 ^ y) {x = 128 - (t + 2) - 64} {y = s} {u = 64} {v = s + (2 + t)} (omega arith) (omega arith)
     ∙ mod-pow-add (v / 2 ^ s) s (2 + t))
 
--- the first and the second bit of the header of block t
-abbrev pub firstBit : (ℕ → ℕ) → ℕ → ℕ
-firstBit lane t = headerAt 0 lane 0 t / 2
-
-abbrev pub secondBit : (ℕ → ℕ) → ℕ → ℕ
-secondBit lane t = headerAt 0 lane 0 t % 2
-
 -- bits << 1 | bit
 bit-more : (f : ℕ → ℕ) → ((k : ℕ) → f k < 2) → (n word bit : ℕ) → n < 32 → word ≡ number f 0 n → bit ≡ f n → bitOr (word * 2 ^ 1 % 2 ^ 32) bit ≡ number f 0 (n + 1)
 bit-more f bits n word bit h ew eb =
@@ -75,12 +69,6 @@ bit-more f bits n word bit h ew eb =
     ∙ sym (number-more f 0 n)
 
 module _ (lane : ℕ → ℕ) (bits : (k : ℕ) → lane k < 2) where
-  first-lt : (t : ℕ) → firstBit lane t < 2
-  first-lt t = omega (arith, header-lt 0 lane bits 0 t)
-
-  second-lt : (t : ℕ) → secondBit lane t < 2
-  second-lt t = omega arith
-
   -- block b, of word b and the next
   module _ (b word : ℕ) (h : b < 32) (ew : word ≡ number lane (64 * b) 64) where
     pub data-read : (next block : ℕ) → next ≡ number lane (64 * (b + 1)) 64 → block ≡ number (digit 128 (word * 2 ^ 64 + next)) (2 * b + 2) 64 → block ≡ number (dataBit 0 lane 0) (64 * b) 64
@@ -93,60 +81,19 @@ module _ (lane : ℕ → ℕ) (bits : (k : ℕ) → lane k < 2) where
         (λ j q. ap (λ (x : ℕ). digit 128 x (2 * b + 2 + j)) both ∙ digit-number lane bits (64 * b) 128 (2 * b + 2 + j) (omega arith) ∙ ap lane (omega arith))
 
     module _ (header : ℕ) (eh : header ≡ number (digit 64 word) (2 * b) 2) where
-      header-read : header ≡ headerAt 0 lane 0 b
-      unfolding headerAt headerPlace blockWidth value
+      header-read : header ≡ firstBit 0 lane 0 b * 2 + secondBit 0 lane 0 b
+      unfolding firstBit secondBit headerPlace blockWidth
       header-read =
           eh
           ∙ number-ext (digit 64 word) lane (2 * b) (66 * (32 * 0 + b)) 2
           (λ j q. ap (λ (x : ℕ). digit 64 x (2 * b + j)) ew ∙ digit-number lane bits (64 * b) 64 (2 * b + j) (omega arith) ∙ ap lane (omega arith))
           ∙ number-two lane (66 * (32 * 0 + b))
 
-      pub first-more : (first : ℕ) → first ≡ number (firstBit lane) 0 b → bitOr (first * 2 ^ 1 % 2 ^ 32) (header / 2 ^ 1) ≡ number (firstBit lane) 0 (b + 1)
-      first-more first e = bit-more (firstBit lane) first-lt b first (header / 2 ^ 1) h e (ap (λ (x : ℕ). x / 2) header-read)
+      pub first-more : (first : ℕ) → first ≡ number (firstBit 0 lane 0) 0 b → bitOr (first * 2 ^ 1 % 2 ^ 32) (header / 2 ^ 1) ≡ number (firstBit 0 lane 0) 0 (b + 1)
+      first-more first e = bit-more (firstBit 0 lane 0) (first-lt 0 lane bits 0) b first (header / 2 ^ 1) h e (omega (arith, header-read, second-lt 0 lane bits 0 b))
 
-      pub second-more : (second : ℕ) → second ≡ number (secondBit lane) 0 b → bitOr (second * 2 ^ 1 % 2 ^ 32) (bitAnd header 1) ≡ number (secondBit lane) 0 (b + 1)
-      second-more second e = bit-more (secondBit lane) second-lt b second (bitAnd header 1) h e (and-mask header 1 ∙ ap (λ (x : ℕ). x % 2) header-read)
-
-  -- what holds of all four headers
-  header-cases : (P : ℕ → Type 0) → P 0 → P 1 → P 2 → P 3 → (t : ℕ) → P (headerAt 0 lane 0 t)
-  header-cases P p₀ p₁ p₂ p₃ t = go (headerAt 0 lane 0 t) (header-lt 0 lane bits 0 t)
-    where
-      go : (v : ℕ) → v < 4 → P v
-      go zero l = p₀
-      go (suc zero) l = p₁
-      go (suc (suc zero)) l = p₂
-      go (suc (suc (suc zero))) l = p₃
-      go (suc (suc (suc (suc v)))) l = absurd (omega arith)
-
-  -- a header is valid where its bits differ, and then carries its second
-  module _ (first second : ℕ) (ef : first ≡ number (firstBit lane) 0 32) (es : second ≡ number (secondBit lane) 0 32) where
-    valid : ℕ → ℕ
-    valid t = bitXor (firstBit lane t) (secondBit lane t)
-
-    valid-lt : (t : ℕ) → valid t < 2
-    unfolding valid
-    valid-lt t = xor-lt 1 (firstBit lane t) (secondBit lane t) (first-lt t) (second-lt t)
-
-    all-valid : bitXor first second ≡ number valid 0 32
-    unfolding valid
-    all-valid = ap₂ bitXor ef es ∙ sym (number-xor (firstBit lane) (secondBit lane) first-lt second-lt 0 32)
-
-    pub sync-read : bitAnd second (bitXor first second) ≡ number (syncBit 0 lane 0) 0 32
-    unfolding valid syncBit carries
-    sync-read =
-        ap₂ bitAnd es all-valid
-        ∙ sym (number-ext (syncBit 0 lane 0) (λ t. bitAnd (secondBit lane t) (valid t)) 0 0 32
-        (λ j q. header-cases (λ (v : ℕ). carries v ≡ bitAnd (v % 2) (bitXor (v / 2) (v % 2))) refl refl refl refl (0 + j))
-        ∙ number-and (secondBit lane) valid second-lt valid-lt 0 32)
-
-    pub invalid-read : bitXor (bitXor first second) 0xffffffff ≡ number (invalidBit 0 lane 0) 0 32
-    unfolding valid invalidBit invalid
-    invalid-read =
-        ap (λ (x : ℕ). bitXor x 0xffffffff) all-valid
-        ∙ sym (number-ext (invalidBit 0 lane 0) (λ t. bitXor (valid t) 1) 0 0 32
-        (λ j q. header-cases (λ (v : ℕ). invalid v ≡ bitXor (bitXor (v / 2) (v % 2)) 1) refl refl refl refl (0 + j))
-        ∙ number-xor valid (λ t. 1) valid-lt (λ t. lit≤ tt) 0 32
-        ∙ ap (bitXor (number valid 0 32)) (number-ones 0 32))
+      pub second-more : (second : ℕ) → second ≡ number (secondBit 0 lane 0) 0 b → bitOr (second * 2 ^ 1 % 2 ^ 32) (bitAnd header 1) ≡ number (secondBit 0 lane 0) 0 (b + 1)
+      second-more second e = bit-more (secondBit 0 lane 0) (second-lt 0 lane bits 0) b second (bitAnd header 1) h e (omega (arith, and-mask header 1, header-read, second-lt 0 lane bits 0 b))
 
 -- all 32 blocks laid over 256 octets are the data of the multiblock
 pub octets-read : (lane : ℕ → ℕ) (b : ℕ) (old : List ℕ) {octets : List ℕ} → b ≡ 32 → length old ≡ 256 → octets ≡ laid (octetsOf (dataBit 0 lane 0) (8 * b)) old → octets ≡ dataOctets 0 lane 0
@@ -160,22 +107,18 @@ module _ (lane : List ℕ) where
   own-bit : (x : ℕ) → x < 8 * 264 → bitAt (take 264 lane) x ≡ bitAt lane x
   own-bit = bit-take 264 lane
 
-  own-header : (t : ℕ) → t < 32 → headerAt 0 (bitAt (take 264 lane)) 0 t ≡ headerAt 0 (bitAt lane) 0 t
-  unfolding headerAt headerPlace blockWidth
-  own-header t h = ap₂ value (own-bit (66 * (32 * 0 + t)) (omega arith)) (own-bit (66 * (32 * 0 + t) + 1) (omega arith))
-
   pub own-octets : dataOctets 0 (bitAt (take 264 lane)) 0 ≡ dataOctets 0 (bitAt lane) 0
   own-octets = same-octets 0 (bitAt (take 264 lane)) (bitAt lane) 0 (λ q h. unfold dataBit dataPlace headerPlace blockWidth in own-bit (66 * (32 * 0 + q / 64) + 2 + q % 64 + 0 * (q % 64 / 8)) (omega arith))
 
-  pub own-sync : number (syncBit 0 (bitAt (take 264 lane)) 0) 0 32 ≡ number (syncBit 0 (bitAt lane) 0) 0 32
-  own-sync =
-      number-ext (syncBit 0 (bitAt (take 264 lane)) 0) (syncBit 0 (bitAt lane) 0) 0 0 32
-      (λ j q. same-sync 0 (bitAt (take 264 lane)) (bitAt lane) 0 (0 + j) (own-header (0 + j) (omega arith)))
+  pub own-firsts : number (firstBit 0 (bitAt (take 264 lane)) 0) 0 32 ≡ number (firstBit 0 (bitAt lane) 0) 0 32
+  unfolding firstBit headerPlace blockWidth
+  own-firsts =
+      number-ext (firstBit 0 (bitAt (take 264 lane)) 0) (firstBit 0 (bitAt lane) 0) 0 0 32 (λ j q. own-bit (66 * (32 * 0 + (0 + j))) (omega arith))
 
-  pub own-invalid : number (invalidBit 0 (bitAt (take 264 lane)) 0) 0 32 ≡ number (invalidBit 0 (bitAt lane) 0) 0 32
-  own-invalid =
-      number-ext (invalidBit 0 (bitAt (take 264 lane)) 0) (invalidBit 0 (bitAt lane) 0) 0 0 32
-      (λ j q. same-invalid 0 (bitAt (take 264 lane)) (bitAt lane) 0 (0 + j) (own-header (0 + j) (omega arith)))
+  pub own-seconds : number (secondBit 0 (bitAt (take 264 lane)) 0) 0 32 ≡ number (secondBit 0 (bitAt lane) 0) 0 32
+  unfolding secondBit headerPlace blockWidth
+  own-seconds =
+      number-ext (secondBit 0 (bitAt (take 264 lane)) 0) (secondBit 0 (bitAt lane) 0) 0 0 32 (λ j q. own-bit (66 * (32 * 0 + (0 + j)) + 1) (omega arith))
 
 -- ---- writing
 

@@ -6,8 +6,8 @@ use native.Mathlib.Nat.{add-mul, mul-add, mul-assoc, mul-comm}
 use native.Mathlib.Omega.{arith}
 use Rattle.bits.specs.Order.{bitAt}
 use Rattle.bits.proofs.Octets.{bit-octetsOf}
-use Rattle.frame.specs.Headers.{value}
-use Rattle.frame.specs.Lane.{blockWidth, laneOctets, headerPlace, dataPlace, dataBit, headerAt, dataOctets}
+use Rattle.frame.specs.Headers.{value, headerRead}
+use Rattle.frame.specs.Lane.{blockWidth, laneOctets, headerPlace, dataPlace, dataBit, firstBit, secondBit, valueAt, headerAt, dataOctets}
 use Rattle.frame.proofs.Lane.{dataBit-lt}
 
 blocks : (gap t : ℕ) → blockWidth gap * t ≡ 66 * t + gap * (7 * t)
@@ -48,5 +48,5 @@ data-octets-bit gap lane bits m q h = bit-octetsOf (dataBit gap lane m) (dataBit
 -- lanes that agree in the two bits of a header have the same header there
 pub header-same : (gap : ℕ) (f g : ℕ → ℕ) (m t : ℕ) → f (headerPlace gap m t) ≡ g (headerPlace gap m t) → f (headerPlace gap m t + 1) ≡ g (headerPlace gap m t + 1)
     → headerAt gap f m t ≡ headerAt gap g m t
-unfolding headerAt
-header-same gap f g m t first second = ap₂ value first second
+unfolding headerAt valueAt firstBit secondBit
+header-same gap f g m t first second = ap₂ (λ (a b : ℕ). headerRead (value a b)) first second

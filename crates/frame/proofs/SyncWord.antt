@@ -7,17 +7,20 @@ use Prim.Native.Nat.{ℕ, zero, suc, _+_, _-_, _*_, _/_, _%_, _^_, _≤_, _<_}
 use native.Mathlib.Nat.{mod-lt, zero-lt-suc, pow-suc, le-of-suc-le-suc, not-suc-le-zero, add-zero, zero-add, add-suc, le-refl}
 use native.Mathlib.Numerals.{add-one}
 use native.Mathlib.Omega.{arith}
-use borrow.Author.Tests.{eqb-true, ne-eqb, le-leb, lt-leb}
+use borrow.Author.Tests.{eqb-true, le-leb, lt-leb}
 use lib.Dec.{T, ltb, leb, eqb, ltb→lt, eqb→eq}
 use lib.ListN.{length, getD}
-use Rattle.bits.specs.Choice.{pick}
+use Rattle.bits.specs.Choice.{pick, bitOf}
 use Rattle.bits.specs.Order.{number, digit}
 use Rattle.bits.proofs.Numbers.{digit-at, number-none, number-lt, number-ext, number-whole, digit-number, low-digit}
 use Rattle.bits.proofs.Tests.{left, right, every, every-at}
 use Rattle.frame.specs.declared.modes.Sync.{Sync}
 use Rattle.frame.specs.declared.modes.Sync.the-variants.{Crc12, Fec}
+use Rattle.frame.specs.declared.headers.Header.{Header}
+use Rattle.frame.specs.Headers.{carries, invalid}
 use Rattle.frame.specs.Modes.{Field, parity, command, mark, fixed, layout, code, commandWidth, flaggedBound}
 use Rattle.frame.specs.SyncWord.{held, syncWord, key, position, readParity, readCommand, flaggedCommand}
+use Rattle.frame.proofs.Reading.{carries-lt}
 
 -- ---- the test
 
@@ -205,10 +208,12 @@ module _ (S : Sync) (a b : ℕ → ℕ) where
       let w = commandWidth S in
       number-ext (λ j. a (place S (command (w - 1 - j)))) (λ j. b (place S (command (w - 1 - j)))) 0 0 w (λ j h. e (w - 1 - (0 + j)) (omega arith))
 
-pub only-flagged : (S : Sync) (a b invalid other : ℕ → ℕ) → ((k : ℕ) → k < commandWidth S → a (place S (command k)) ≡ b (place S (command k)))
-    → ((k : ℕ) → k < commandWidth S → invalid (place S (command k)) ≡ other (place S (command k))) → flaggedCommand S a invalid ≡ flaggedCommand S b other
+pub only-flagged : (S : Sync) (a b : ℕ → Header) → ((k : ℕ) → k < commandWidth S → a (place S (command k)) ≡ b (place S (command k))) → flaggedCommand S a ≡ flaggedCommand S b
 unfolding flaggedCommand
-only-flagged S a b invalid other e f = ap₂ (λ (x y : ℕ). x + pick (leb 1 y) (2 ^ commandWidth S) 0) (only-command S a b e) (only-command S invalid other f)
+only-flagged S a b e =
+    ap₂ (λ (x y : ℕ). x + pick (leb 1 y) (2 ^ commandWidth S) 0)
+    (only-command S (λ t. carries (a t)) (λ t. carries (b t)) (λ k h. ap carries (e k h)))
+    (only-command S (λ t. bitOf (invalid (a t))) (λ t. bitOf (invalid (b t))) (λ k h. ap (λ (x : Header). bitOf (invalid x)) (e k h)))
 
 -- 32 sync bits are read alike as a stream and as the number they write
 module _ (S : Sync) (s : Stands S) where
@@ -219,14 +224,8 @@ module _ (S : Sync) (s : Stands S) where
     pub number-parity : readParity S (digit 32 (number bits 0 32)) ≡ readParity S bits
     number-parity = only-parity S (digit 32 (number bits 0 32)) bits (λ k h. bit-there (parity k) (s .parities k h))
 
-    number-command : readCommand S (digit 32 (number bits 0 32)) ≡ readCommand S bits
+    pub number-command : readCommand S (digit 32 (number bits 0 32)) ≡ readCommand S bits
     number-command = only-command S (digit 32 (number bits 0 32)) bits (λ k h. bit-there (command k) (s .commands k h))
-
-  pub number-flagged : (bits invalid : ℕ → ℕ) → ((t : ℕ) → bits t < 2) → ((t : ℕ) → invalid t < 2)
-      → flaggedCommand S (digit 32 (number bits 0 32)) (digit 32 (number invalid 0 32)) ≡ flaggedCommand S bits invalid
-  unfolding flaggedCommand
-  number-flagged bits invalid d e =
-      ap₂ (λ (x y : ℕ). x + pick (leb 1 y) (2 ^ commandWidth S) 0) (number-command bits d) (number-command invalid e)
 
 module _ (S : Sync) (bits : ℕ → ℕ) (d : (t : ℕ) → bits t < 2) where
   pub readParity-lt : readParity S bits < 2 ^ code S .width
@@ -237,26 +236,27 @@ module _ (S : Sync) (bits : ℕ → ℕ) (d : (t : ℕ) → bits t < 2) where
   unfolding readCommand
   readCommand-lt = number-lt (λ j. bits (place S (command (commandWidth S - 1 - j)))) (λ j. d (place S (command (commandWidth S - 1 - j)))) 0 (commandWidth S)
 
-  pub flaggedCommand-lt : (invalid : ℕ → ℕ) → flaggedCommand S bits invalid < 2 ^ (commandWidth S + 1)
+module _ (S : Sync) (headers : ℕ → Header) where
+  pub flaggedCommand-lt : flaggedCommand S headers < 2 ^ (commandWidth S + 1)
   unfolding flaggedCommand
-  flaggedCommand-lt invalid =
-      subst (λ (x : ℕ). readCommand S bits + pick (leb 1 (readCommand S invalid)) (2 ^ commandWidth S) 0 < x)
-      (sym (ap (λ (x : ℕ). 2 ^ x) (add-one (commandWidth S)) ∙ pow-suc 2 (commandWidth S))) (by (leb 1 (readCommand S invalid)))
+  flaggedCommand-lt =
+      let flag = leb 1 (readCommand S (λ t. bitOf (invalid (headers t)))) in
+      subst (λ (x : ℕ). readCommand S (λ t. carries (headers t)) + pick flag (2 ^ commandWidth S) 0 < x)
+      (sym (ap (λ (x : ℕ). 2 ^ x) (add-one (commandWidth S)) ∙ pow-suc 2 (commandWidth S))) (by flag)
     where
-      by : (b : Bool) → readCommand S bits + pick b (2 ^ commandWidth S) 0 < 2 ^ commandWidth S * 2
-      by true = omega (arith, readCommand-lt)
-      by false = omega (arith, readCommand-lt)
+      by : (b : Bool) → readCommand S (λ t. carries (headers t)) + pick b (2 ^ commandWidth S) 0 < 2 ^ commandWidth S * 2
+      by true = omega (arith, readCommand-lt S (λ t. carries (headers t)) (λ t. carries-lt (headers t)))
+      by false = omega (arith, readCommand-lt S (λ t. carries (headers t)) (λ t. carries-lt (headers t)))
 
--- the command is flagged exactly where a header of its own was invalid
-module _ (S : Sync) (bits invalid : ℕ → ℕ) where
-  pub flagged : 1 ≤ readCommand S invalid → readCommand S bits + 2 ^ commandWidth S ≡ flaggedCommand S bits invalid
+  -- the command is flagged exactly where a header of its own was invalid
+  pub flagged : 1 ≤ readCommand S (λ t. bitOf (invalid (headers t))) → readCommand S (λ t. carries (headers t)) + 2 ^ commandWidth S ≡ flaggedCommand S headers
   unfolding flaggedCommand
-  flagged h = ap (λ (b : Bool). readCommand S bits + pick b (2 ^ commandWidth S) 0) (sym (le-leb 1 (readCommand S invalid) h))
+  flagged h = ap (λ (b : Bool). readCommand S (λ t. carries (headers t)) + pick b (2 ^ commandWidth S) 0) (sym (le-leb 1 _ h))
 
-  pub unflagged : readCommand S invalid < 1 → readCommand S bits ≡ flaggedCommand S bits invalid
+  pub unflagged : readCommand S (λ t. bitOf (invalid (headers t))) < 1 → readCommand S (λ t. carries (headers t)) ≡ flaggedCommand S headers
   unfolding flaggedCommand
   unflagged h =
-      sym (ap (λ (b : Bool). readCommand S bits + pick b (2 ^ commandWidth S) 0) (lt-leb 1 (readCommand S invalid) h) ∙ add-zero (readCommand S bits))
+      sym (ap (λ (b : Bool). readCommand S (λ t. carries (headers t)) + pick b (2 ^ commandWidth S) 0) (lt-leb 1 _ h) ∙ add-zero _)
 
 -- a mode without commands reads 0
 pub no-command : (S : Sync) → commandWidth S ≡ 0 → (bits : ℕ → ℕ) → readCommand S bits ≡ 0
@@ -265,10 +265,10 @@ no-command S none bits =
     let f : ℕ → ℕ = λ j. bits (place S (command (commandWidth S - 1 - j))) in
     ap (number f 0) none ∙ sym (number-none f 0)
 
-pub no-flagged-command : (S : Sync) → commandWidth S ≡ 0 → (bits invalid : ℕ → ℕ) → flaggedCommand S bits invalid ≡ 0
+pub no-flagged-command : (S : Sync) → commandWidth S ≡ 0 → (headers : ℕ → Header) → flaggedCommand S headers ≡ 0
 unfolding flaggedCommand
-no-flagged-command S none bits invalid =
-    ap₂ (λ (x y : ℕ). x + pick (leb 1 y) (2 ^ commandWidth S) 0) (no-command S none bits) (no-command S none invalid)
+no-flagged-command S none headers =
+    ap₂ (λ (x y : ℕ). x + pick (leb 1 y) (2 ^ commandWidth S) 0) (no-command S none (λ t. carries (headers t))) (no-command S none (λ t. bitOf (invalid (headers t))))
 
 -- ---- the order of the parity's bits
 
@@ -308,6 +308,6 @@ module _ (S : Sync) (s : Stands S) where
 
 -- ---- a command that was read is in its range
 
-pub flagged-fits : (S : Sync) (bits invalid : ℕ → ℕ) → ((t : ℕ) → bits t < 2) → flaggedCommand S bits invalid < flaggedBound S
-flagged-fits Crc12 bits invalid d = flaggedCommand-lt Crc12 bits d invalid
-flagged-fits Fec bits invalid d = omega (arith, no-flagged-command Fec refl bits invalid)
+pub flagged-fits : (S : Sync) (headers : ℕ → Header) → flaggedCommand S headers < flaggedBound S
+flagged-fits Crc12 headers = flaggedCommand-lt Crc12 headers
+flagged-fits Fec headers = omega (arith, no-flagged-command Fec refl headers)

@@ -1,13 +1,13 @@
 -- Blocks and multiblocks on a lane: clauses 7.1.2, 7.1.3 and 7.2.2; document 01, "From octets to lane bits".
 -- A lane is a stream of bits, `bitAt octets`; its first multiblock is multiblock 0. A block's shape is the gap between its data octets:
 -- 0 bits, or 2 in blocks of 80 bits. Assumes nothing.
-use mathlib.Core.Bool.{Bool, true, false}
 use mathlib.Core.List.{List}
 use Prim.Native.Nat.{ℕ, zero, suc, _+_, _-_, _*_, _/_, _%_}
 use lib.Dec.{ltb}
 use Rattle.bits.specs.Choice.{pick}
-use Rattle.bits.specs.Order.{bitAt, number, digit, octetsOf}
-use Rattle.frame.specs.Headers.{value, carries, invalid, headerOf}
+use Rattle.bits.specs.Order.{bitAt, digit, octetsOf}
+use Rattle.frame.specs.declared.headers.Header.{Header}
+use Rattle.frame.specs.Headers.{value, headerRead, carries, invalidAmong, headerOf}
 
 -- ---- where things stand
 
@@ -32,15 +32,26 @@ dataPlace gap m q = headerPlace gap m (q / 64) + 2 + q % 64 + gap * (q % 64 / 8)
 unfoldable pub dataBit : ℕ → (ℕ → ℕ) → ℕ → ℕ → ℕ
 dataBit gap lane m q = lane (dataPlace gap m q)
 
-unfoldable pub headerAt : ℕ → (ℕ → ℕ) → ℕ → ℕ → ℕ
-headerAt gap lane m t = value (lane (headerPlace gap m t)) (lane (headerPlace gap m t + 1))
+-- the header of block t of multiblock m: its two bits, its value, and what it reads as
+unfoldable pub firstBit : ℕ → (ℕ → ℕ) → ℕ → ℕ → ℕ
+firstBit gap lane m t = lane (headerPlace gap m t)
 
--- bit t of the sync word of multiblock m, and whether its header was invalid
+unfoldable pub secondBit : ℕ → (ℕ → ℕ) → ℕ → ℕ → ℕ
+secondBit gap lane m t = lane (headerPlace gap m t + 1)
+
+unfoldable pub valueAt : ℕ → (ℕ → ℕ) → ℕ → ℕ → ℕ
+valueAt gap lane m t = value (firstBit gap lane m t) (secondBit gap lane m t)
+
+unfoldable pub headerAt : ℕ → (ℕ → ℕ) → ℕ → ℕ → Header
+headerAt gap lane m t = headerRead (valueAt gap lane m t)
+
+-- bit t of the sync word of multiblock m
 unfoldable pub syncBit : ℕ → (ℕ → ℕ) → ℕ → ℕ → ℕ
 syncBit gap lane m t = carries (headerAt gap lane m t)
 
-unfoldable pub invalidBit : ℕ → (ℕ → ℕ) → ℕ → ℕ → ℕ
-invalidBit gap lane m t = invalid (headerAt gap lane m t)
+-- how many of the 32 headers of multiblock m are invalid (request 1)
+unfoldable pub invalidHeaders : ℕ → (ℕ → ℕ) → ℕ → ℕ
+invalidHeaders gap lane m = invalidAmong (headerAt gap lane m)
 
 -- the 256 data octets of multiblock m, as they stand on the lane
 unfoldable pub dataOctets : ℕ → (ℕ → ℕ) → ℕ → List ℕ

@@ -1,14 +1,15 @@
 -- Sync words, written and read by a layout of 32 fields: clauses 7.3.3, 7.3.4 and 7.3.6; document 01, "From octets to lane bits".
 -- A sync word is a number of 32 bits: position 0 is the highest. Assumes nothing.
-use mathlib.Core.Bool.{Bool, true, false}
 use mathlib.Core.List.{List, [], _∷_}
-use Prim.Native.Nat.{ℕ, zero, suc, _+_, _-_, _*_, _/_, _%_, _^_}
+use Prim.Native.Nat.{ℕ, suc, _+_, _-_, _*_, _/_, _%_, _^_}
 use lib.Dec.{eqb, leb}
 use lib.ListN.{getD}
-use Rattle.bits.specs.Choice.{pick}
+use Rattle.bits.specs.Choice.{pick, bitOf}
 use Rattle.bits.specs.Order.{number}
 use Rattle.parity.specs.Codeword.{Code}
 use Rattle.frame.specs.declared.modes.Sync.{Sync}
+use Rattle.frame.specs.declared.headers.Header.{Header}
+use Rattle.frame.specs.Headers.{carries, invalid}
 use Rattle.frame.specs.Modes.{Field, parity, command, mark, fixed, layout, code, commandWidth}
 
 -- ---- written
@@ -44,6 +45,7 @@ readParity S bits = number (λ j. bits (position (layout S) (parity (code S .wid
 unfoldable pub readCommand : Sync → (ℕ → ℕ) → ℕ
 readCommand S bits = number (λ j. bits (position (layout S) (command (commandWidth S - 1 - j)))) 0 (commandWidth S)
 
--- the same with a flag above it, where any of its headers was invalid
-unfoldable pub flaggedCommand : Sync → (ℕ → ℕ) → (ℕ → ℕ) → ℕ
-flaggedCommand S bits invalid = readCommand S bits + pick (leb 1 (readCommand S invalid)) (2 ^ commandWidth S) 0
+-- the command that 32 headers carry, with a flag above it where any of its own was invalid
+unfoldable pub flaggedCommand : Sync → (ℕ → Header) → ℕ
+flaggedCommand S headers =
+    readCommand S (λ t. carries (headers t)) + pick (leb 1 (readCommand S (λ t. bitOf (invalid (headers t))))) (2 ^ commandWidth S) 0

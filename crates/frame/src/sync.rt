@@ -4,7 +4,9 @@ ghost use mathlib.Core.Path.{_≡_};
 ghost use Rattle.bits.specs.Choice.{bitOf};
 ghost use Rattle.bits.specs.Order.{digit};
 ghost use Rattle.frame.specs.declared.modes.Sync.the-variants.{Crc12, Fec};
+ghost use Rattle.frame.specs.Headers.{headerIn};
 ghost use Rattle.frame.specs.SyncWord.{syncWord, readParity, readCommand, flaggedCommand};
+use crate::headers;
 use crate::modes::Sync;
 
 fn crc12_word(parity: u32, command: u32, mark: bool) -> u32
@@ -66,23 +68,23 @@ fn crc12_command(bits: u32) -> u32
     ((bits >> 9) & 0x70) ^ ((bits >> 8) & 8) ^ ((bits >> 5) & 7)
 }
 
-// The same with its flag.
-fn crc12_flagged(bits: u32, invalid: u32) -> u32
-    ensures { λ r. ⌜ r ≡ flaggedCommand Crc12 (digit 32 bits) (digit 32 invalid) ⌝ }
+// The same of 32 headers, with its flag.
+fn crc12_flagged(first: u32, second: u32) -> u32
+    ensures { λ r. ⌜ r ≡ flaggedCommand Crc12 (headerIn first second) ⌝ }
 {
-    let own = crc12_command(bits);
-    if crc12_command(invalid) >= 1 {
+    let own = crc12_command(headers::carried(first, second));
+    if crc12_command(headers::invalid(first, second)) >= 1 {
         return own + 128;
     }
     own
 }
 
-// The command that 32 sync bits carry, flagged where one of its headers was invalid.
-pub fn command(sync: Sync, bits: u32, invalid: u32) -> u32
-    ensures { λ r. ⌜ r ≡ flaggedCommand sync (digit 32 bits) (digit 32 invalid) ⌝ }
+// The command that 32 headers carry, by their first and their second bits; flagged where one of its own was invalid.
+pub fn command(sync: Sync, first: u32, second: u32) -> u32
+    ensures { λ r. ⌜ r ≡ flaggedCommand sync (headerIn first second) ⌝ }
 {
     match sync {
-        Sync::Crc12 => crc12_flagged(bits, invalid),
+        Sync::Crc12 => crc12_flagged(first, second),
         Sync::Fec => 0,
     }
 }

@@ -7,6 +7,8 @@ use borrow.Author.Tests.{le-ltb, ltb-false, not-false}
 use Rattle.bits.specs.Refusals.{refusalBy}
 use Rattle.bits.proofs.Choice.{both-true, parts-true}
 use Rattle.bits.proofs.Refusals.{passed, none-left, not-given}
+use Rattle.frame.specs.declared.headers.Header.{Header}
+use Rattle.frame.specs.Headers.{headerRead}
 use Rattle.frame.specs.Modes.{known, extentFits}
 use Rattle.lock.specs.HeaderTable.{valid, headerStep}
 use Rattle.lock.specs.Table.{fresh, extendedAfter, lockStep}
@@ -36,7 +38,7 @@ accepted-of : (width period : ℕ) (lock : Lock) → AcceptedParts width period 
 unfolding accepted
 accepted-of width period lock a = both-true _ _ (both-true _ _ (a .header) (a .extended)) (a .waits)
 
-after-row : (width period : ℕ) (was held : Bool) (h : HeaderLock) (x : ExtendedLock) (header : ℕ) → h .locked ≡ held → 1 ≤ period
+after-row : (width period : ℕ) (was held : Bool) (h : HeaderLock) (x : ExtendedLock) (header : Header) → h .locked ≡ held → 1 ≤ period
     → headerInRange width h ≡ true → extendedInRange period x ≡ true → (was || isFresh x) ≡ true
     → AcceptedParts width period (record { header = h; extended = extendedAfter was held period x header })
 after-row width period false held h x header l p eh ex w =
@@ -47,7 +49,7 @@ after-row width period true false h x header l p eh ex w =
     record { header = eh; extended = fresh-extended period; waits = subst (λ (t : Bool). (h .locked || t) ≡ true) (sym is-fresh) (or-true (h .locked)) }
 
 -- an accepted state steps to an accepted state
-pub accepted-step : (width period : ℕ) (lock : Lock) (header : ℕ) → 1 ≤ period → accepted width period lock ≡ true → accepted width period (lockStep width period lock header) ≡ true
+pub accepted-step : (width period : ℕ) (lock : Lock) (header : Header) → 1 ≤ period → accepted width period lock ≡ true → accepted width period (lockStep width period lock header) ≡ true
 unfolding lockStep
 accepted-step width period lock header p e =
     let a = accepted-parts width period lock e in
@@ -87,6 +89,6 @@ module _ (mode E : ℕ) (lock : Lock) (header : ℕ) where
       ∙ passed 2 _ _ (ap not (t .extent))
       ∙ passed 1 _ _ (ap not (t .of-mode)))
 
-pub stepped-taken : {mode E : ℕ} {lock : Lock} {header : ℕ} → Taken mode E lock header → stepped mode E lock header ≡ record { refusal = 0; lock = lockStep (widthOf mode) (32 * E) lock header }
+pub stepped-taken : {mode E : ℕ} {lock : Lock} {header : ℕ} → Taken mode E lock header → stepped mode E lock header ≡ record { refusal = 0; lock = lockStep (widthOf mode) (32 * E) lock (headerRead header) }
 unfolding stepped
 stepped-taken t = simp (not-refused _ _ _ _ t)

@@ -1,16 +1,16 @@
 -- An undamaged CRC-12 lane, fed from fresh at its true offset from any block of it, holds both locks after at most 95 + 128E blocks and at
 -- every block after: document 01, "Lock tables". Assumes nothing.
 use mathlib.Core.Path.{_≡_, refl, sym, ap, _∙_, subst}
-use mathlib.Core.Bool.{Bool, true, false}
+use mathlib.Core.Bool.{Bool, true, false, not}
 use Prim.Native.Nat.{ℕ, zero, suc, _+_, _-_, _*_, _%_, _≤_, _<_}
 use native.Mathlib.Nat.{add-suc, add-zero}
 use native.Mathlib.Numerals.{add-one, one-add}
 use native.Mathlib.Omega.{arith}
-use borrow.Author.Tests.{eq-eqb}
 use lib.Dec.{eqb}
-use Rattle.frame.specs.Headers.{carries}
+use Rattle.frame.specs.declared.headers.Header.{Header}
+use Rattle.frame.specs.Headers.{headerRead, carries}
 use Rattle.frame.specs.Modes.{known, extentFits}
-use Rattle.frame.proofs.Headers.{valid-le}
+use Rattle.frame.proofs.Reading.{valid-le}
 use Rattle.frame.proofs.Rows.{extent-within}
 use Rattle.lock.specs.HeaderTable.{headerHunting, headerLocked, valid, headerStep}
 use Rattle.lock.specs.ExtendedTable.{withHeader, matches, hunting, moved, extendedStep, freshExtended}
@@ -35,7 +35,7 @@ use Rattle.lock.proofs.Ends.{matches-at-ends}
 abbrev withFresh : HeaderLock → Lock
 withFresh x = record { header = x; extended = freshExtended }
 
-module _ (width period header : ℕ) (k : valid header ≡ true) where
+module _ (width period : ℕ) (header : Header) (k : valid header ≡ true) where
   counts : (n : ℕ) → n < 63 → lockStep width period (withFresh (headerHunting 0 n)) header ≡ withFresh (headerHunting 0 (n + 1))
   unfolding lockStep
   counts n h = simp (k, rows.counts width 0 n h)
@@ -70,22 +70,26 @@ module _ (mode E p : ℕ) (headers : ℕ → ℕ) (of-mode : known mode ≡ true
   values : (n : ℕ) → headers n ≤ 3
   values n = valid-le (headers n) (lane .valid n)
 
-  good : (n : ℕ) → valid (headers n) ≡ true
-  good n = eq-eqb _ _ (lane .valid n)
+  read : ℕ → Header
+  read n = headerRead (headers n)
 
-  next : (n : ℕ) → r (suc n) ≡ lockStep (widthOf mode) (32 * E) (r n) (headers n)
-  unfolding r
+  good : (n : ℕ) → valid (read n) ≡ true
+  unfolding read
+  good n = ap not (lane .valid n)
+
+  next : (n : ℕ) → r (suc n) ≡ lockStep (widthOf mode) (32 * E) (r n) (read n)
+  unfolding r read
   next n = state-next mode E headers n (state-taken mode E headers of-mode extent values n)
 
   counting : (n : ℕ) → n ≤ 63 → r n ≡ withFresh (headerHunting 0 n)
   unfolding r
   counting zero h = state-none mode E headers
   counting (suc n) h =
-      next n ∙ ap (λ (x : Lock). lockStep (widthOf mode) (32 * E) x (headers n)) (counting n (omega arith)) ∙ counts (widthOf mode) (32 * E) (headers n) (good n) n (omega arith)
+      next n ∙ ap (λ (x : Lock). lockStep (widthOf mode) (32 * E) x (read n)) (counting n (omega arith)) ∙ counts (widthOf mode) (32 * E) (read n) (good n) n (omega arith)
       ∙ ap (λ (k : ℕ). withFresh (headerHunting 0 k)) (add-one n)
 
   gained : r 64 ≡ withFresh (headerLocked 0 0 0)
-  gained = next 63 ∙ ap (λ (x : Lock). lockStep (widthOf mode) (32 * E) x (headers 63)) (counting 63 (omega arith)) ∙ gains (widthOf mode) (32 * E) (headers 63) (good 63)
+  gained = next 63 ∙ ap (λ (x : Lock). lockStep (widthOf mode) (32 * E) x (read 63)) (counting 63 (omega arith)) ∙ gains (widthOf mode) (32 * E) (read 63) (good 63)
 
   -- from there on
   x : ℕ → ExtendedLock
@@ -98,45 +102,45 @@ module _ (mode E p : ℕ) (headers : ℕ → ℕ) (of-mode : known mode ≡ true
   on : (k : ℕ) → r (64 + k) .header .locked ≡ true
   on zero = ap (λ (y : Lock). y .header .locked) (ap r (add-zero 64) ∙ gained)
   on (suc k) =
-      ap (λ (y : Lock). y .header .locked) (ap r (add-suc 64 k) ∙ next (64 + k) ∙ keeps (widthOf mode) (32 * E) (headers (64 + k)) (good (64 + k)) (r (64 + k)) (on k))
+      ap (λ (y : Lock). y .header .locked) (ap r (add-suc 64 k) ∙ next (64 + k) ∙ keeps (widthOf mode) (32 * E) (read (64 + k)) (good (64 + k)) (r (64 + k)) (on k))
       ∙ rows.stays-locked (widthOf mode) (r (64 + k) .header) (on k)
 
-  stepping : (k : ℕ) → x (suc k) ≡ extendedStep (32 * E) (x k) (headers (64 + k))
+  stepping : (k : ℕ) → x (suc k) ≡ extendedStep (32 * E) (x k) (read (64 + k))
   unfolding x
   stepping k =
-      ap (λ (y : Lock). y .extended) (ap r (add-suc 64 k) ∙ next (64 + k) ∙ keeps (widthOf mode) (32 * E) (headers (64 + k)) (good (64 + k)) (r (64 + k)) (on k))
+      ap (λ (y : Lock). y .extended) (ap r (add-suc 64 k) ∙ next (64 + k) ∙ keeps (widthOf mode) (32 * E) (read (64 + k)) (good (64 + k)) (r (64 + k)) (on k))
 
   sync : ℕ → ℕ
-  sync n = carries (headers (64 + n))
+  sync n = carries (read (64 + n))
 
   seen : (k : ℕ) → Seen sync k (x k)
   seen zero = rw start (seen-none sync)
-  seen (suc k) = rw stepping (seen-step sync k (32 * E) (headers (64 + k)) (x k) (unfold sync in refl) (seen k))
+  seen (suc k) = rw stepping (seen-step sync k (32 * E) (read (64 + k)) (x k) (unfold sync in refl) (seen k))
 
-  seen-with : (k : ℕ) → Seen sync (suc k) (withHeader (x k) (headers (64 + k)))
-  seen-with k = seen-more sync k (headers (64 + k)) (x k) (unfold sync in refl) (seen k)
+  seen-with : (k : ℕ) → Seen sync (suc k) (withHeader (x k) (read (64 + k)))
+  seen-with k = seen-more sync k (read (64 + k)) (x k) (unfold sync in refl) (seen k)
 
-  stepping-by : (k : ℕ) (m : Bool) → matches (withHeader (x k) (headers (64 + k))) ≡ m → x (suc k) ≡ moved (32 * E) (withHeader (x k) (headers (64 + k))) m
-  stepping-by k m e = stepping k ∙ step-by (32 * E) (x k) (headers (64 + k)) m e
+  stepping-by : (k : ℕ) (m : Bool) → matches (withHeader (x k) (read (64 + k))) ≡ m → x (suc k) ≡ moved (32 * E) (withHeader (x k) (read (64 + k))) m
+  stepping-by k m e = stepping k ∙ step-by (32 * E) (x k) (read (64 + k)) m e
 
   -- too few to match
   still : (k : ℕ) → k ≤ 31 → (y : ExtendedLock) × (x k ≡ hunting y)
   still zero h = (freshExtended, start)
   still (suc k) h =
       let s = still k (omega arith) in
-      let y = withHeader (s .0) (headers (64 + k)) in (
+      let y = withHeader (s .0) (read (64 + k)) in (
         y,
-        stepping-by k false (too-few (withHeader (x k) (headers (64 + k))) (omega (arith, seen-with k .few (omega arith))))
-            ∙ ap (λ (z : ExtendedLock). moved (32 * E) (withHeader z (headers (64 + k))) false) (s .1)
-            ∙ ap (λ (z : ExtendedLock). moved (32 * E) z false) (with-hunting (s .0) (headers (64 + k)))
+        stepping-by k false (too-few (withHeader (x k) (read (64 + k))) (omega (arith, seen-with k .few (omega arith))))
+            ∙ ap (λ (z : ExtendedLock). moved (32 * E) (withHeader z (read (64 + k))) false) (s .1)
+            ∙ ap (λ (z : ExtendedLock). moved (32 * E) z false) (with-hunting (s .0) (read (64 + k)))
             ∙ hunts-on (32 * E) y,
       )
 
-  fed : (k : ℕ) → 31 ≤ k → x (suc k) ≡ moved (32 * E) (withHeader (x k) (headers (64 + k))) (eqb ((k + (64 + p)) % (32 * E)) (32 * E - 1))
-  unfolding sync
+  fed : (k : ℕ) → 31 ≤ k → x (suc k) ≡ moved (32 * E) (withHeader (x k) (read (64 + k))) (eqb ((k + (64 + p)) % (32 * E)) (32 * E - 1))
+  unfolding sync read
   fed k h =
-      stepping-by k _ (matches-at-ends E (64 + p) sync (later E p 64 (λ n. carries (headers n)) (lane .sync)) some k (withHeader (x k) (headers (64 + k))) h
-      (subst (λ (n : ℕ). Seen sync n (withHeader (x k) (headers (64 + k)))) (sym (one-add k)) (seen-with k)))
+      stepping-by k _ (matches-at-ends E (64 + p) sync (later E p 64 (λ n. carries (headerRead (headers n))) (lane .sync)) some k (withHeader (x k) (read (64 + k))) h
+      (subst (λ (n : ℕ). Seen sync n (withHeader (x k) (read (64 + k)))) (sym (one-add k)) (seen-with k)))
 
   -- both locks are held after 95 + 128E blocks, and at every block after
   pub locked-in-time : (n : ℕ) → 95 + 128 * E ≤ n → Held (stateAfter mode E headers n)
@@ -145,4 +149,4 @@ module _ (mode E p : ℕ) (headers : ℕ → ℕ) (of-mode : known mode ≡ true
       let z : 64 + (n - 64) ≡ n = omega arith in
       let s = still 31 (omega arith) in
       subst (λ (k : ℕ). Held (stateAfter mode E headers k)) z
-      (record { header = on (n - 64); extended = follows (32 * E) (64 + p) 31 (omega (arith, some)) (λ k. headers (64 + k)) x (s .0) (s .1) fed (n - 64) (omega arith) })
+      (record { header = on (n - 64); extended = follows (32 * E) (64 + p) 31 (omega (arith, some)) (λ k. read (64 + k)) x (s .0) (s .1) fed (n - 64) (omega arith) })

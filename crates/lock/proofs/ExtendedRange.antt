@@ -9,8 +9,9 @@ use borrow.Author.Tests.{ltb-true, le-leb, leb-true, eq-eqb, eqb-true, eqb-false
 use lib.Dec.{ltb, leb, eqb}
 use lib.Pow.{pow-pos, split}
 use Rattle.bits.proofs.Choice.{both-true, parts-true, pick-both}
+use Rattle.frame.specs.declared.headers.Header.{Header}
 use Rattle.frame.specs.Headers.{carries}
-use Rattle.frame.proofs.Headers.{carries-lt}
+use Rattle.frame.proofs.Reading.{carries-lt}
 use Rattle.lock.specs.ExtendedTable.{withHeader, matches, hunting, following, locked, extendedRow, moved, extendedStep, freshExtended}
 use Rattle.lock.specs.Ranges.{headersInRange, phaseInRange, extendedInRange, isFresh}
 use Rattle.lock.specs.declared.Phase.{Phase}
@@ -25,7 +26,7 @@ below x k e =
     let l = mod-lt x (pow-pos k) in
     omega arith
 
-headers-keep : (x : ExtendedLock) (header : ℕ) → headersInRange x ≡ true → headersInRange (withHeader x header) ≡ true
+headers-keep : (x : ExtendedLock) (header : Header) → headersInRange x ≡ true → headersInRange (withHeader x header) ≡ true
 unfolding headersInRange withHeader
 headers-keep x header e =
     let p = parts-true _ _ e in
@@ -115,12 +116,12 @@ unfolding extendedInRange
 headers-range period x e = parts-true (headersInRange x) _ e .0
 
 -- a header more changes no count
-pub phase-with : (period : ℕ) (x : ExtendedLock) (header : ℕ) → phaseInRange (x .phase) period (x .good) (x .bad) (x .next) ≡ true
+pub phase-with : (period : ℕ) (x : ExtendedLock) (header : Header) → phaseInRange (x .phase) period (x .good) (x .bad) (x .next) ≡ true
     → let y = withHeader x header in phaseInRange (y .phase) period (y .good) (y .bad) (y .next) ≡ true
 unfolding withHeader
 phase-with period x header e = e
 
-pub extended-keeps : (period : ℕ) (x : ExtendedLock) (header : ℕ) → 1 ≤ period → extendedInRange period x ≡ true → extendedInRange period (extendedStep period x header) ≡ true
+pub extended-keeps : (period : ℕ) (x : ExtendedLock) (header : Header) → 1 ≤ period → extendedInRange period x ≡ true → extendedInRange period (extendedStep period x header) ≡ true
 unfolding extendedStep moved
 extended-keeps period x header h e =
     let y = withHeader x header in

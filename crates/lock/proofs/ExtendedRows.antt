@@ -7,6 +7,7 @@ use borrow.Author.Tests.{eq-eqb, ne-eqb}
 use lib.Dec.{ltb, eqb}
 use Rattle.bits.specs.Choice.{pick}
 use Rattle.bits.proofs.Choice.{pick-both}
+use Rattle.frame.specs.declared.headers.Header.{Header}
 use Rattle.frame.specs.Headers.{carries}
 use Rattle.lock.specs.ExtendedTable.{withHeader, matches, hunting, following, locked, extendedRow, moved, extendedStep}
 use Rattle.lock.specs.declared.Phase.{Phase}
@@ -15,7 +16,7 @@ use Rattle.lock.specs.declared.ExtendedLock.{ExtendedLock}
 
 -- ---- the last 32 headers
 
-module _ (x : ExtendedLock) (header : ℕ) where
+module _ (x : ExtendedLock) (header : Header) where
   pub with-seen : withHeader x header .seen ≡ pick (ltb (x .seen) 32) (x .seen + 1) 32
   unfolding withHeader
   with-seen = refl
@@ -89,7 +90,7 @@ module _ (period : ℕ) (x : ExtendedLock) where
   same-row Locked true true = same _ refl refl
   same-row Locked true false = pick-both (SameHeaders x) (eqb (x .bad + 1) 8) _ _ (λ e. same _ refl refl) (λ e. same _ refl refl)
 
-module _ (period : ℕ) (x : ExtendedLock) (header : ℕ) where
+module _ (period : ℕ) (x : ExtendedLock) (header : Header) where
   pub step-same : SameHeaders (withHeader x header) (extendedStep period x header)
   unfolding extendedStep moved
   step-same = let y = withHeader x header in same-row period y (y .phase) (eqb (y .next) 1) (matches y)

@@ -8,6 +8,7 @@ use native.Mathlib.Nat.{suc-mod, mod-lt, mod-self, mod-eq-of-lt, eq-zero-or-pos,
 use native.Mathlib.Omega.{arith}
 use borrow.Author.Tests.{eq-eqb, ne-eqb}
 use lib.Dec.{eqb}
+use Rattle.frame.specs.declared.headers.Header.{Header}
 use Rattle.lock.specs.ExtendedTable.{withHeader, hunting, following, locked, moved}
 use Rattle.lock.specs.declared.Phase.the-variants.{Locked}
 use Rattle.lock.specs.declared.ExtendedLock.{ExtendedLock}
@@ -40,14 +41,14 @@ data Track (period c t : ℕ) (x : ExtendedLock) : Type 0 where
   held : (y : ExtendedLock) (next : ℕ) → x ≡ locked y 0 next → c + next ≡ period → t ≡ 0 → Track period c t x
 
 -- what block c does to a lock x, with its header v: it is no end of an extended multiblock, or it is one
-module _ (period c v : ℕ) {x y z w : ExtendedLock} (q : x ≡ y) (e : withHeader y v ≡ z) where
+module _ (period c : ℕ) (v : Header) {x y z w : ExtendedLock} (q : x ≡ y) (e : withHeader y v ≡ z) where
   miss : c + 1 < period → moved period z false ≡ w → moved period (withHeader x v) (eqb c (period - 1)) ≡ w
   miss h m = ap₂ (moved period) (ap (λ (u : ExtendedLock). withHeader u v) q ∙ e) (ne-eqb c (period - 1) (λ f. omega arith)) ∙ m
 
   hit : c + 1 ≡ period → moved period z true ≡ w → moved period (withHeader x v) (eqb c (period - 1)) ≡ w
   hit h m = ap₂ (moved period) (ap (λ (u : ExtendedLock). withHeader u v) q ∙ e) (eq-eqb c (period - 1) (omega arith)) ∙ m
 
-step : {period c d t : ℕ} {x : ExtendedLock} (v : ℕ) → Turn period c d → Track period c t x → Track period d (t - 1) (moved period (withHeader x v) (eqb c (period - 1)))
+step : {period c d t : ℕ} {x : ExtendedLock} (v : Header) → Turn period c d → Track period c t x → Track period d (t - 1) (moved period (withHeader x v) (eqb c (period - 1)))
 step {period} {c} v (inside h e) (hunts y q w) = let n = withHeader y v in hunts n (miss period c v q (with-hunting y v) h (hunts-on period n)) (omega arith)
 step {period} {c} v (around h e) (hunts y q w) = let n = withHeader y v in first n period (hit period c v q (with-hunting y v) h (finds period n)) (omega arith) (omega arith)
 step {period} {c} v (inside h e) (first y l q w u) = let n = withHeader y v in first n (l - 1) (miss period c v q (with-following y v 1 l) h (waits period n 1 l (omega arith))) (omega arith) (omega arith)
@@ -67,7 +68,7 @@ done h z (third y l q w u) = absurd (omega arith)
 done h z (held y l q w u) = ap (λ (y : ExtendedLock). y .phase) q
 
 -- a lock x that hunts, fed from block N on with headers v
-module _ (period q N : ℕ) (pos : 0 < period) (v : ℕ → ℕ) (x : ℕ → ExtendedLock) (y : ExtendedLock) (start : x N ≡ hunting y)
+module _ (period q N : ℕ) (pos : 0 < period) (v : ℕ → Header) (x : ℕ → ExtendedLock) (y : ExtendedLock) (start : x N ≡ hunting y)
     (fed : (k : ℕ) → N ≤ k → x (suc k) ≡ moved period (withHeader (x k) (v k)) (eqb ((k + q) % period) (period - 1))) where
   track : (j : ℕ) → Track period ((N + j + q) % period) (4 * period - (N + q) % period - j) (x (N + j))
   track zero =

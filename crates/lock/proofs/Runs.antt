@@ -9,6 +9,7 @@ use native.Mathlib.Nat.{zero-add}
 use native.Mathlib.Omega.{arith}
 use Rattle.bits.specs.Order.{listFrom}
 use Rattle.bits.proofs.Lists.{list-none, list-one, list-append, list-ext}
+use Rattle.frame.specs.Headers.{headerRead}
 use Rattle.frame.specs.Modes.{known, row, extentFits}
 use Rattle.frame.proofs.Rows.{extent-within}
 use Rattle.frame.proofs.Sizes.{width-some}
@@ -47,7 +48,7 @@ module _ (mode E : ℕ) (headers : ℕ → ℕ) where
   state-suc n = ap (stateAfter mode E headers) (sym (add-one n)) ∙ state-on n 1 ∙ ap (after mode E (stateAfter mode E headers n)) (list-one headers n)
 
   -- a step that is taken goes by the tables
-  pub state-next : (n : ℕ) → Taken mode E (stateAfter mode E headers n) (headers n) → stateAfter mode E headers (suc n) ≡ lockStep (widthOf mode) (32 * E) (stateAfter mode E headers n) (headers n)
+  pub state-next : (n : ℕ) → Taken mode E (stateAfter mode E headers n) (headers n) → stateAfter mode E headers (suc n) ≡ lockStep (widthOf mode) (32 * E) (stateAfter mode E headers n) (headerRead (headers n))
   state-next n t = state-suc n ∙ ap (λ (x : Stepped). x .lock) (stepped-taken t)
 
 -- a block has bits
@@ -62,7 +63,7 @@ module _ (mode E : ℕ) (headers : ℕ → ℕ) (of-mode : known mode ≡ true) 
   state-accepted (suc n) =
       subst (λ (x : Lock). accepted (widthOf mode) (32 * E) x ≡ true)
       (sym (state-next mode E headers n (record { of-mode = of-mode; extent = extent; state = state-accepted n; value = values n })))
-      (accepted-step (widthOf mode) (32 * E) (stateAfter mode E headers n) (headers n) (omega (arith, extent-within E extent .0)) (state-accepted n))
+      (accepted-step (widthOf mode) (32 * E) (stateAfter mode E headers n) (headerRead (headers n)) (omega (arith, extent-within E extent .0)) (state-accepted n))
 
   -- and every step of it is taken
   pub state-taken : (n : ℕ) → Taken mode E (stateAfter mode E headers n) (headers n)

@@ -9,8 +9,9 @@ use lib.Dec.{ltb}
 use lib.Pow.{high, shr-shr}
 use Rattle.bits.proofs.Choice.{pick-both}
 use Rattle.bits.proofs.Numbers.{low-digit}
+use Rattle.frame.specs.declared.headers.Header.{Header}
 use Rattle.frame.specs.Headers.{carries}
-use Rattle.frame.proofs.Headers.{carries-lt}
+use Rattle.frame.proofs.Reading.{carries-lt}
 use Rattle.lock.specs.ExtendedTable.{withHeader, freshExtended, extendedStep}
 use Rattle.lock.specs.declared.ExtendedLock.{ExtendedLock}
 use Rattle.lock.proofs.ExtendedRows.{with-seen, with-headers, step-same}
@@ -39,7 +40,7 @@ window-more s k x b l e w zero j h q =
 window-more s k x b l e w (suc i) j h q =
     ap (λ (n : ℕ). (x % 2 ^ 31 * 2 + b) / 2 ^ n % 2) {x = suc i} {y = 1 + i} (omega arith) ∙ shifted x b i l (omega arith) ∙ w i j (omega arith) (omega arith)
 
-pub seen-more : (s : ℕ → ℕ) (k header : ℕ) (x : ExtendedLock) → carries header ≡ s k → Seen s k x → Seen s (suc k) (withHeader x header)
+pub seen-more : (s : ℕ → ℕ) (k : ℕ) (header : Header) (x : ExtendedLock) → carries header ≡ s k → Seen s k x → Seen s (suc k) (withHeader x header)
 seen-more s k header x e w = record {
   few = λ h. with-seen x header ∙ simp (lt-ltb (x .seen) 32 (omega (arith, w .few (omega arith)))) (omega (arith, w .few (omega arith)));
   many = λ h. with-seen x header ∙ pick-both (λ (n : ℕ). n ≡ 32) (ltb (x .seen) 32) (x .seen + 1) 32
@@ -48,7 +49,7 @@ seen-more s k header x e w = record {
   window = λ i j h q. ap (λ (n : ℕ). n / 2 ^ i % 2) (with-headers x header) ∙ window-more s k (x .headers) (carries header) (carries-lt header) e (w .window) i j h q;
 }
 
-pub seen-step : (s : ℕ → ℕ) (k period header : ℕ) (x : ExtendedLock) → carries header ≡ s k → Seen s k x → Seen s (suc k) (extendedStep period x header)
+pub seen-step : (s : ℕ → ℕ) (k period : ℕ) (header : Header) (x : ExtendedLock) → carries header ≡ s k → Seen s k x → Seen s (suc k) (extendedStep period x header)
 seen-step s k period header x e w =
     let v = seen-more s k header x e w in
     let m = step-same period x header in

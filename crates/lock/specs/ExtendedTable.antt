@@ -5,6 +5,7 @@ use Prim.Native.Nat.{ℕ, _+_, _-_, _*_, _%_, _^_}
 use lib.Dec.{ltb, leb, eqb}
 use Rattle.bits.specs.Choice.{pick}
 use Rattle.bits.specs.Order.{digit}
+use Rattle.frame.specs.declared.headers.Header.{Header}
 use Rattle.frame.specs.Headers.{carries}
 use Rattle.lock.specs.declared.Phase.{Phase}
 use Rattle.lock.specs.declared.Phase.the-variants.{Hunting, Following, Locked}
@@ -13,7 +14,7 @@ use Rattle.lock.specs.declared.ExtendedLock.{ExtendedLock}
 -- ---- the last 32 headers
 
 -- one header more, with the latest in bit 0; at most 32 are counted
-unfoldable pub withHeader : ExtendedLock → ℕ → ExtendedLock
+unfoldable pub withHeader : ExtendedLock → Header → ExtendedLock
 withHeader x header = record {
   phase = x .phase;
   seen = pick (ltb (x .seen) 32) (x .seen + 1) 32;
@@ -62,7 +63,7 @@ unfoldable pub moved : ℕ → ExtendedLock → Bool → ExtendedLock
 moved period x match = extendedRow (x .phase) (eqb (x .next) 1) match period x
 
 -- one header: it is the latest of the last 32 when a match is looked for
-unfoldable pub extendedStep : ℕ → ExtendedLock → ℕ → ExtendedLock
+unfoldable pub extendedStep : ℕ → ExtendedLock → Header → ExtendedLock
 extendedStep period x header = moved period (withHeader x header) (matches (withHeader x header))
 
 -- hunting, and nothing seen

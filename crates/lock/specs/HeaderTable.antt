@@ -1,9 +1,10 @@
 -- The step table of header lock: clause 7.6.1; document 01, "Lock tables", whose lines stand above the rows. A block is `width` bits wide: 66
 -- where the document says so. Assumes nothing.
-use mathlib.Core.Bool.{Bool, true, false}
+use mathlib.Core.Bool.{Bool, true, false, not}
 use Prim.Native.Nat.{ℕ, _+_, _%_}
 use lib.Dec.{eqb}
 use Rattle.bits.specs.Choice.{pick}
+use Rattle.frame.specs.declared.headers.Header.{Header}
 use Rattle.frame.specs.Headers.{invalid}
 use Rattle.lock.specs.declared.HeaderLock.{HeaderLock}
 
@@ -16,8 +17,8 @@ abbrev pub headerLocked : ℕ → ℕ → ℕ → HeaderLock
 headerLocked offset run bad = record { locked = true; offset = offset; run = run; bad = bad }
 
 -- 01 and 10
-abbrev pub valid : ℕ → Bool
-valid header = eqb (invalid header) 0
+abbrev pub valid : Header → Bool
+valid header = not (invalid header)
 
 -- by: is it locked, is the header valid
 abbrev pub headerRow : Bool → Bool → ℕ → HeaderLock → HeaderLock

@@ -5,6 +5,7 @@ use Prim.Native.Nat.{ℕ, _*_}
 use lib.Dec.{ltb, eqb}
 use Rattle.bits.specs.Choice.{pick}
 use Rattle.bits.specs.Refusals.{Line, _when_, refusalBy}
+use Rattle.frame.specs.Headers.{headerRead}
 use Rattle.frame.specs.Lane.{blockWidth}
 use Rattle.frame.specs.Modes.{known, row, extentFits}
 use Rattle.lock.specs.Table.{lockStep}
@@ -29,4 +30,4 @@ refusals mode E lock header =
 unfoldable pub stepped : ℕ → ℕ → Lock → ℕ → Stepped
 stepped mode E lock header =
     let refusal = refusalBy (refusals mode E lock header) in
-    record { refusal = refusal; lock = pick (eqb refusal 0) (lockStep (widthOf mode) (32 * E) lock header) lock }
+    record { refusal = refusal; lock = pick (eqb refusal 0) (lockStep (widthOf mode) (32 * E) lock (headerRead header)) lock }

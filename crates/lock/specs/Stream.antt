@@ -1,9 +1,9 @@
 -- What an undamaged CRC-12 lane's headers have for certain: clause 7.3.4, Table 41; document 01, "From octets to lane bits". Assumes nothing.
 use mathlib.Core.Path.{_≡_}
-use mathlib.Core.Bool.{Bool, true, _||_}
+use mathlib.Core.Bool.{Bool, true, false, _||_}
 use Prim.Native.Nat.{ℕ, _+_, _-_, _*_, _%_, _≤_}
 use lib.Dec.{eqb}
-use Rattle.frame.specs.Headers.{carries, invalid}
+use Rattle.frame.specs.Headers.{headerRead, carries, invalid}
 use Rattle.lock.specs.declared.Phase.the-variants.{Locked}
 use Rattle.lock.specs.declared.Lock.{Lock}
 
@@ -21,8 +21,8 @@ pub record Crc12Sync (E p : ℕ) (sync : ℕ → ℕ) : Type 0 where
 
 -- header values that are all valid and carry such sync bits
 pub record Crc12Headers (E p : ℕ) (headers : ℕ → ℕ) : Type 0 where
-  pub valid : (n : ℕ) → invalid (headers n) ≡ 0
-  pub sync : Crc12Sync E p (λ n. carries (headers n))
+  pub valid : (n : ℕ) → invalid (headerRead (headers n)) ≡ false
+  pub sync : Crc12Sync E p (λ n. carries (headerRead (headers n)))
 
 -- both locks are held
 pub record Held (lock : Lock) : Type 0 where

@@ -9,6 +9,7 @@ use crate::ExtendedLock;
 use crate::Phase;
 use crate::latest::is_match;
 use crate::latest::with_header;
+use frame::headers::Header;
 
 fn counted(lock: ExtendedLock, phase: Phase, good: u32, bad: u32, next: u32) -> ExtendedLock
     ensures { λ r. ⌜ r ≡ counted lock phase good bad next ⌝ }
@@ -80,7 +81,7 @@ fn moved(period: u32, lock: ExtendedLock, matched: bool) -> ExtendedLock
 }
 
 // The state after one more header.
-pub(crate) fn next(period: u32, lock: ExtendedLock, header: u8) -> ExtendedLock
+pub(crate) fn next(period: u32, lock: ExtendedLock, header: Header) -> ExtendedLock
     requires { ⌜ extendedInRange period lock ≡ true ⌝ }
     ensures { λ r. ⌜ r ≡ extendedStep period lock header ⌝ }
 {

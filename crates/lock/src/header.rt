@@ -4,6 +4,7 @@ ghost use mathlib.Core.Bool.{true, false};
 ghost use Rattle.lock.specs.HeaderTable.{headerHunting, headerLocked, valid, headerRow, headerStep};
 ghost use Rattle.lock.specs.Ranges.{headerInRange};
 use crate::HeaderLock;
+use frame::headers::Header;
 
 fn hunting(offset: u32, run: u32) -> HeaderLock
     ensures { λ r. ⌜ r ≡ headerHunting offset run ⌝ }
@@ -25,18 +26,6 @@ fn locked(offset: u32, run: u32, bad: u32) -> HeaderLock
         run,
         bad,
     }
-}
-
-fn is_valid(header: u8) -> bool
-    ensures { λ r. ⌜ r ≡ valid header ⌝ }
-{
-    if header == 1 {
-        return true;
-    }
-    if header == 2 {
-        return true;
-    }
-    false
 }
 
 fn hunting_next(width: u32, lock: HeaderLock, valid: bool) -> HeaderLock
@@ -72,11 +61,11 @@ fn locked_next(width: u32, lock: HeaderLock, valid: bool) -> HeaderLock
 }
 
 // The state after one more header.
-pub(crate) fn next(width: u32, lock: HeaderLock, header: u8) -> HeaderLock
+pub(crate) fn next(width: u32, lock: HeaderLock, header: Header) -> HeaderLock
     requires { ⌜ headerInRange width lock ≡ true ⌝ }
     ensures { λ r. ⌜ r ≡ headerStep width lock (valid header) ⌝ }
 {
-    let valid = is_valid(header);
+    let valid = !header.is_invalid();
     if lock.locked {
         return locked_next(width, lock, valid);
     }

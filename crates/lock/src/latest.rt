@@ -1,21 +1,11 @@
 // The last 32 headers, and whether they match: clause 7.6.2; document 01, "Lock tables".
 ghost use mathlib.Core.Path.{_≡_};
-ghost use Prim.Native.Nat.{_+_, _≤_};
+ghost use Prim.Native.Nat.{_+_};
 ghost use lib.Dec.{ltb};
 ghost use Rattle.bits.specs.Choice.{pick};
-ghost use Rattle.frame.specs.Headers.{carries};
 ghost use Rattle.lock.specs.ExtendedTable.{withHeader, matches};
 use crate::ExtendedLock;
-
-fn sync_bit(header: u8) -> u32
-    ensures { λ r. ⌜ r ≡ carries header ⌝ }
-    ensures { λ r. ⌜ r ≤ 1 ⌝ }
-{
-    if header == 1 {
-        return 1;
-    }
-    0
-}
+use frame::headers::Header;
 
 fn one_more(seen: u32) -> u32
     ensures { λ r. ⌜ r ≡ pick (ltb seen 32) (seen + 1) 32 ⌝ }
@@ -27,10 +17,10 @@ fn one_more(seen: u32) -> u32
 }
 
 // The oldest of 32 headers goes where one comes.
-pub(crate) fn with_header(lock: ExtendedLock, header: u8) -> ExtendedLock
+pub(crate) fn with_header(lock: ExtendedLock, header: Header) -> ExtendedLock
     ensures { λ r. ⌜ r ≡ withHeader lock header ⌝ }
 {
-    let bit = sync_bit(header);
+    let bit = header.carries();
     let seen = one_more(lock.seen);
     let headers = lock.headers % 0x8000_0000 * 2 + bit;
     let phase = lock.phase;

@@ -6,6 +6,8 @@ ghost use Rattle.lock.specs.ExtendedTable.{freshExtended};
 ghost use Rattle.lock.specs.Table.{fresh, extendedAfter, lockStep};
 ghost use Rattle.lock.specs.Ranges.{extendedInRange, accepted};
 ghost use Rattle.lock.specs.Refusals.{widthOf, refusals, stepped};
+use frame::headers;
+use frame::headers::Header;
 use frame::modes::extent_fits;
 use frame::modes::known;
 use frame::modes::numbers_of;
@@ -88,7 +90,7 @@ fn extended_after(
     held: bool,
     period: u32,
     lock: ExtendedLock,
-    header: u8,
+    header: Header,
 ) -> ExtendedLock
     requires { ⌜ extendedInRange period lock ≡ true ⌝ }
     ensures { λ r. ⌜ r ≡ extendedAfter was held period lock header ⌝ }
@@ -102,7 +104,7 @@ fn extended_after(
     ExtendedLock::fresh()
 }
 
-fn lock_next(width: u32, period: u32, lock: Lock, header: u8) -> Lock
+fn lock_next(width: u32, period: u32, lock: Lock, header: Header) -> Lock
     requires { ⌜ accepted width period lock ≡ true ⌝ }
     ensures { λ r. ⌜ r ≡ lockStep width period lock header ⌝ }
 {
@@ -153,6 +155,7 @@ pub fn step(mode: u8, e: u32, lock: Lock, header: u8) -> Stepped
     if refusal != 0 {
         return Stepped { refusal, lock };
     }
+    let header = headers::read(header);
     let lock = lock_next(width, 32 * e, lock, header);
     Stepped { refusal, lock }
 }

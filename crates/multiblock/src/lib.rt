@@ -4,7 +4,7 @@ ghost use mathlib.Core.Path.{_≡_};
 ghost use Prim.Native.Nat.{_+_, _-_, _*_, _/_, _%_, _^_, _<_};
 ghost use Rattle.bits.specs.Order.{bitAt, digit, number, octetsOf, wordBit, laidAt};
 ghost use Rattle.frame.specs.Headers.{headerOf};
-ghost use Rattle.frame.specs.Lane.{multiblock, dataOctets, syncBit, invalidBit};
+ghost use Rattle.frame.specs.Lane.{multiblock, dataOctets, firstBit, secondBit};
 
 // The header that carries a bit of the sync word.
 fn header_of(sync: u32, block: usize) -> u64
@@ -65,18 +65,18 @@ fn data_in(word: u64, next: u64, block: usize) -> u64
     ((word << 2) << (2 * block)) | (next >> (62 - 2 * block))
 }
 
-// A multiblock as it was read: its data octets, its sync bits, and a 1 for each header that was invalid. Position 0 is the highest bit.
+// A multiblock as it was read: its data octets, and the first and the second bits of its 32 headers, with block 0's the highest.
 pub struct Multiblock {
     pub octets: [u8; 256],
-    pub bits: u32,
-    pub invalid: u32,
+    pub first: u32,
+    pub second: u32,
 }
 
 // The multiblock at the start of `lane`; past the end of the lane bits are 0.
 pub fn read(lane: &[u8]) -> Multiblock
     ensures { λ r. ⌜ r .octets ≡ dataOctets 0 (bitAt (now (lane .entry))) 0 ⌝ }
-    ensures { λ r. ⌜ r .bits ≡ number (syncBit 0 (bitAt (now (lane .entry))) 0) 0 32 ⌝ }
-    ensures { λ r. ⌜ r .invalid ≡ number (invalidBit 0 (bitAt (now (lane .entry))) 0) 0 32 ⌝ }
+    ensures { λ r. ⌜ r .first ≡ number (firstBit 0 (bitAt (now (lane .entry))) 0) 0 32 ⌝ }
+    ensures { λ r. ⌜ r .second ≡ number (secondBit 0 (bitAt (now (lane .entry))) 0) 0 32 ⌝ }
 {
     let mut octets = [0u8; 256];
     let mut first: u32 = 0;
@@ -90,10 +90,9 @@ pub fn read(lane: &[u8]) -> Multiblock
         bits::put_word(&mut octets[..], 8 * block, data_in(word, next, block));
         word = next;
     }
-    let valid = first ^ second;
     Multiblock {
         octets,
-        bits: second & valid,
-        invalid: valid ^ 0xffff_ffff,
+        first,
+        second,
     }
 }

@@ -10,11 +10,12 @@ use Rattle.bits.proofs.Numbers.{bitAt-lt, number-lt}
 use Rattle.frame.specs.declared.modes.Sync.{Sync}
 use Rattle.frame.specs.declared.modes.Row.{Row}
 use Rattle.frame.specs.Modes.{flaggedBound}
-use Rattle.frame.specs.Lane.{syncBit, invalidBit}
-use Rattle.frame.proofs.Lane.{syncBit-lt}
+use Rattle.frame.specs.declared.headers.Header.the-variants.{Zero}
+use Rattle.frame.specs.Lane.{headerAt}
+use Rattle.frame.proofs.Lane.{invalid-at-le}
 use Rattle.frame.proofs.SyncWord.{flagged-fits}
 use Rattle.receiver.specs.declared.Receiver.{Receiver}
-use Rattle.receiver.specs.Release.{Step, fresh, mendedAt, waitingAt, step, run}
+use Rattle.receiver.specs.Release.{Step, fresh, waitingAt, step, run}
 use Rattle.receiver.specs.Refusal.{allZero, asFresh, stateFits}
 use Rattle.receiver.proofs.Refusals.{waiting-fits, idle-fits}
 
@@ -22,7 +23,7 @@ module _ (R : Row) (lane : ℕ → ℕ) where
   waiting-accepted : (m history : ℕ) (trusted : Bool) → history < 2 ^ 58 → stateFits (flaggedBound (R .sync)) (waitingAt R lane m history trusted) ≡ true
   unfolding waitingAt
   waiting-accepted m history trusted h =
-      sym (waiting-fits (flaggedBound (R .sync)) _ h (flagged-fits (R .sync) (syncBit (R .gap) lane m) (invalidBit (R .gap) lane m) (syncBit-lt (R .gap) lane m)) refl)
+      sym (waiting-fits (flaggedBound (R .sync)) _ h (flagged-fits (R .sync) (headerAt (R .gap) lane m)) (invalid-at-le (R .gap) lane m) refl)
 
   either : (w : Bool) (a b : Step) → stateFits (flaggedBound (R .sync)) (a .state) ≡ true → stateFits (flaggedBound (R .sync)) (b .state) ≡ true → stateFits (flaggedBound (R .sync)) (pick w a b .state) ≡ true
   either true a b h k = h
@@ -41,5 +42,5 @@ module _ (R : Row) (lane : ℕ → ℕ) where
 pub fresh-accepted : (S : Sync) → stateFits (flaggedBound S) fresh ≡ true
 unfolding asFresh allZero
 fresh-accepted S =
-    let some = flagged-fits S (λ t. 0) (λ t. 0) (λ t. omega arith) in
-    sym (idle-fits (flaggedBound S) fresh (pow-pos 58) (omega (arith, some)) refl)
+    let some = flagged-fits S (λ t. Zero) in
+    sym (idle-fits (flaggedBound S) fresh (pow-pos 58) (omega (arith, some)) (omega arith) refl)

@@ -88,8 +88,8 @@ taken-within size taken long some h = le-div-iff-mul-le some .1 (omega (arith, m
 
 -- ---- refused, or all of the lane
 
-module _ (mode : ℕ) (s : Receiver) (lane o st c p q : List ℕ) (refusal : ℕ) (e : refusal ≡ refusalOf mode s (length lane) (length o) (length st) (length c) (length p) (length q)) where
-  pub is-refused : (refusal ≡ 0 → ⊥) → done (record { refusal = refusal; count = 0; state = s }) o st c p q ≡ entry mode s lane o st c p q
+module _ (mode : ℕ) (s : Receiver) (lane o st c p q i : List ℕ) (refusal : ℕ) (e : refusal ≡ refusalOf mode s (length lane) (length o) (length st) (length c) (length p) (length q) (length i)) where
+  pub is-refused : (refusal ≡ 0 → ⊥) → done (record { refusal = refusal; count = 0; state = s }) o st c p q i ≡ entry mode s lane o st c p q i
   unfolding entry
   is-refused h = rw (← e, ne-eqb refusal 0 h)
 
@@ -97,10 +97,10 @@ module _ (mode : ℕ) (s : Receiver) (lane o st c p q : List ℕ) (refusal : ℕ
     abbrev R : Row
     R = row mode
 
-    ok : Accepted mode s (length lane) (length o) (length st) (length c) (length p) (length q)
-    ok = accepted mode s (length lane) (length o) (length st) (length c) (length p) (length q) (sym e ∙ z)
+    ok : Accepted mode s (length lane) (length o) (length st) (length c) (length p) (length q) (length i)
+    ok = accepted mode s (length lane) (length o) (length st) (length c) (length p) (length q) (length i) (sym e ∙ z)
 
-    is-run : entry mode s lane o st c p q ≡ laidOut (run R (bitAt lane) s (n R s lane)) o st c p q
+    is-run : entry mode s lane o st c p q i ≡ laidOut (run R (bitAt lane) s (n R s lane)) o st c p q i
     unfolding entry
     is-run = rw (← e, eq-eqb refusal 0 z)
 
@@ -117,7 +117,7 @@ module _ (mode : ℕ) (s : Receiver) (lane o st c p q : List ℕ) (refusal : ℕ
           ((0 < length lane / size - b .taken → b .state .waiting ≡ true)
           × (size * (length lane / size - b .taken) ≤ length (take (length lane - size * b .taken) (drop (size * b .taken) lane)))
           × (length lane / size - b .taken ≤ mostOfAll))
-          × Room (length lane / size - b .taken) (length o) (length st) (length c) (length p) (length q)
+          × Room (length lane / size - b .taken) (length o) (length st) (length c) (length p) (length q) (length i)
 
       pub ready : (size : ℕ) → size ≡ laneOctets (R .gap) → Ready size
       ready size es = subst Ready (sym es) (
@@ -134,38 +134,38 @@ module _ (mode : ℕ) (s : Receiver) (lane o st c p q : List ℕ) (refusal : ℕ
           ),
           omega (arith, ok .few, few mode),
         ),
-        subst (λ (k : ℕ). Room k (length o) (length st) (length c) (length p) (length q)) (sym (from .left)) (ok .room),
+        subst (λ (k : ℕ). Room k (length o) (length st) (length c) (length p) (length q) (length i)) (sym (from .left)) (ok .room),
       )
 
-      pub is-all : (own : Row) → own ≡ R → (size : ℕ) → size ≡ laneOctets (R .gap) → (r : Received) (o′ st′ c′ p′ q′ : List ℕ)
-          → done r o′ st′ c′ p′ q′ ≡ laidOut (run own (bitAt (take (length lane - size * b .taken) (drop (size * b .taken) lane))) (b .state) (length lane / size - b .taken)) o st c p q
-          → done r o′ st′ c′ p′ q′ ≡ entry mode s lane o st c p q
-      is-all own eo size es r o′ st′ c′ p′ q′ h =
+      pub is-all : (own : Row) → own ≡ R → (size : ℕ) → size ≡ laneOctets (R .gap) → (r : Received) (o′ st′ c′ p′ q′ i′ : List ℕ)
+          → done r o′ st′ c′ p′ q′ i′ ≡ laidOut (run own (bitAt (take (length lane - size * b .taken) (drop (size * b .taken) lane))) (b .state) (length lane / size - b .taken)) o st c p q i
+          → done r o′ st′ c′ p′ q′ i′ ≡ entry mode s lane o st c p q i
+      is-all own eo size es r o′ st′ c′ p′ q′ i′ h =
           h
-          ∙ ap (λ (x : Row). laidOut (run x (bitAt (take (length lane - size * b .taken) (drop (size * b .taken) lane))) (b .state) (length lane / size - b .taken)) o st c p q) eo
-          ∙ ap (λ (x : ℕ). laidOut (run R (bitAt (take (length lane - x * b .taken) (drop (x * b .taken) lane))) (b .state) (length lane / x - b .taken)) o st c p q) es
-          ∙ ap (λ (x : List ℕ). laidOut (run R (bitAt x) (b .state) (n R s lane - b .taken)) o st c p q) (rest-of lane (L R s lane * b .taken))
-          ∙ ap (λ (x : Step). laidOut x o st c p q) (sym (from .same))
+          ∙ ap (λ (x : Row). laidOut (run x (bitAt (take (length lane - size * b .taken) (drop (size * b .taken) lane))) (b .state) (length lane / size - b .taken)) o st c p q i) eo
+          ∙ ap (λ (x : ℕ). laidOut (run R (bitAt (take (length lane - x * b .taken) (drop (x * b .taken) lane))) (b .state) (length lane / x - b .taken)) o st c p q i) es
+          ∙ ap (λ (x : List ℕ). laidOut (run R (bitAt x) (b .state) (n R s lane - b .taken)) o st c p q i) (rest-of lane (L R s lane * b .taken))
+          ∙ ap (λ (x : Step). laidOut x o st c p q i) (sym (from .same))
           ∙ sym is-run
 
 -- ---- an accepted call, by its answer
 
-module _ (mode : ℕ) (s : Receiver) (lane o st c p q : List ℕ) where
+module _ (mode : ℕ) (s : Receiver) (lane o st c p q i : List ℕ) where
   abbrev refusal : ℕ
-  refusal = refusalOf mode s (length lane) (length o) (length st) (length c) (length p) (length q)
+  refusal = refusalOf mode s (length lane) (length o) (length st) (length c) (length p) (length q) (length i)
 
-  answered : entry mode s lane o st c p q .answer .refusal ≡ refusal
+  answered : entry mode s lane o st c p q i .answer .refusal ≡ refusal
   unfolding entry
   answered = by (eqb refusal 0) refl
     where
       by : (b : Bool) → eqb refusal 0 ≡ b
-          → pick b (laidOut (run (row mode) (bitAt lane) s (length lane / laneOctets (row mode .gap))) o st c p q) (done (record { refusal = refusal; count = 0; state = s }) o st c p q) .answer .refusal ≡ refusal
+          → pick b (laidOut (run (row mode) (bitAt lane) s (length lane / laneOctets (row mode .gap))) o st c p q i) (done (record { refusal = refusal; count = 0; state = s }) o st c p q i) .answer .refusal ≡ refusal
       by true e = sym (eqb-true refusal 0 e)
       by false e = refl
 
-  module _ (z : entry mode s lane o st c p q .answer .refusal ≡ 0) where
-    pub all-run : entry mode s lane o st c p q ≡ laidOut (run (row mode) (bitAt lane) s (length lane / laneOctets (row mode .gap))) o st c p q
-    all-run = is-run mode s lane o st c p q refusal refl (sym answered ∙ z)
+  module _ (z : entry mode s lane o st c p q i .answer .refusal ≡ 0) where
+    pub all-run : entry mode s lane o st c p q i ≡ laidOut (run (row mode) (bitAt lane) s (length lane / laneOctets (row mode .gap))) o st c p q i
+    all-run = is-run mode s lane o st c p q i refusal refl (sym answered ∙ z)
 
     pub all-whole : length lane ≡ laneOctets (row mode .gap) * (length lane / laneOctets (row mode .gap))
-    all-whole = whole mode s lane o st c p q refusal refl (sym answered ∙ z)
+    all-whole = whole mode s lane o st c p q i refusal refl (sym answered ∙ z)

@@ -12,9 +12,9 @@ use Rattle.bits.specs.Order.{bitAt, number}
 use Rattle.bits.proofs.Octets.{bit-drop}
 use Rattle.scrambler.specs.Scrambling.{descrambled}
 use Rattle.frame.specs.declared.modes.Row.{Row}
-use Rattle.frame.specs.Lane.{laneOctets, dataBit, syncBit, invalidBit}
+use Rattle.frame.specs.Lane.{laneOctets, dataBit, headerAt, syncBit, invalidHeaders}
 use Rattle.frame.specs.SyncWord.{readParity, flaggedCommand}
-use Rattle.frame.proofs.Lane.{laneFrom, octets-moved, sync-moved, invalid-moved, same-octets}
+use Rattle.frame.proofs.Lane.{laneFrom, octets-moved, header-at-moved, sync-moved, invalid-moved, same-octets}
 use Rattle.receiver.specs.declared.Receiver.{Receiver}
 use Rattle.receiver.specs.declared.run.Heard.{Heard}
 use Rattle.judge.specs.Judge.{judged, mended, releasedStatus, trustedAfter}
@@ -24,22 +24,23 @@ use Rattle.receiver.specs.inner.Turn.{heardAt}
 -- ---- by what is heard
 
 module _ (R : Row) (s : Receiver) where
-  mendedOn : Heard → List ℕ
+  unfoldable pub mendedOn : Heard → List ℕ
   mendedOn h = mended (judged (R .sync) (s .octets) (h .parity)) (s .octets)
 
-  releaseOn : Heard → Release
+  unfoldable pub releaseOn : Heard → Release
   releaseOn h = record {
     octets = descrambled (mendedOn h) (s .history) 256;
     status = releasedStatus (judged (R .sync) (s .octets) (h .parity)) (s .trusted);
     command = s .command;
     place = judged (R .sync) (s .octets) (h .parity) .place;
     pattern = judged (R .sync) (s .octets) (h .parity) .pattern;
+    invalid = s .invalid;
   }
 
-  waitingOn : ℕ → Bool → Heard → Receiver
-  waitingOn history trusted h = record { waiting = true; octets = h .octets; history = history; trusted = trusted; command = h .command }
+  unfoldable pub waitingOn : ℕ → Bool → Heard → Receiver
+  waitingOn history trusted h = record { waiting = true; octets = h .octets; history = history; trusted = trusted; command = h .command; invalid = h .invalid }
 
-  stepOn : Heard → Step
+  unfoldable pub stepOn : Heard → Step
   stepOn h =
       pick (s .waiting)
       (record { state = waitingOn (number (bitAt (mendedOn h)) 1990 58) (trustedAfter (judged (R .sync) (s .octets) (h .parity))) h; out = releaseOn h ∷ [] })
@@ -49,7 +50,7 @@ module _ (R : Row) (s : Receiver) where
   unfolding releaseAt mendedAt verdictAt heardAt releaseOn mendedOn
   release-heard lane m = refl
 
-  step-heard : (lane : ℕ → ℕ) (m : ℕ) → step R lane m s ≡ stepOn (heardAt R lane m)
+  pub step-heard : (lane : ℕ → ℕ) (m : ℕ) → step R lane m s ≡ stepOn (heardAt R lane m)
   unfolding step waitingAt releaseAt mendedAt verdictAt heardAt stepOn releaseOn waitingOn mendedOn
   step-heard lane m = refl
 
@@ -73,16 +74,17 @@ same-run R f g s (suc n) e =
     ap (λ (x : Step). then x (step R f n (x .state))) (same-run R f g s n (λ m h. e m (omega arith)))
     ∙ ap (then (run R g s n)) (same-step R (run R g s n .state) f n g n (e n (omega arith)))
 
--- a wrong end mark or wrong fixed bits change nothing: only data bits, and what the parity's and the command's headers read
+-- only data bits, what the parity's and the command's headers read, and how many headers are invalid
 pub same-reading : (R : Row) (f g : ℕ → ℕ) (s : Receiver) (n : ℕ)
     → ((m q : ℕ) → m < n → q < 2048 → dataBit (R .gap) f m q ≡ dataBit (R .gap) g m q)
     → ((m : ℕ) → m < n → readParity (R .sync) (syncBit (R .gap) f m) ≡ readParity (R .sync) (syncBit (R .gap) g m))
-    → ((m : ℕ) → m < n → flaggedCommand (R .sync) (syncBit (R .gap) f m) (invalidBit (R .gap) f m) ≡ flaggedCommand (R .sync) (syncBit (R .gap) g m) (invalidBit (R .gap) g m))
+    → ((m : ℕ) → m < n → flaggedCommand (R .sync) (headerAt (R .gap) f m) ≡ flaggedCommand (R .sync) (headerAt (R .gap) g m))
+    → ((m : ℕ) → m < n → invalidHeaders (R .gap) f m ≡ invalidHeaders (R .gap) g m)
     → run R f s n ≡ run R g s n
-same-reading R f g s n same-data same-parity same-command = same-run R f g s n alike
+same-reading R f g s n same-data same-parity same-command same-number = same-run R f g s n alike
   where
     alike : (m : ℕ) → m < n → heardAt R f m ≡ heardAt R g m
-    alike m h = unfold heardAt in rw (same-octets (R .gap) f g m (λ q l. same-data m q h l), same-parity m h, same-command m h)
+    alike m h = unfold heardAt in rw (same-octets (R .gap) f g m (λ q l. same-data m q h l), same-parity m h, same-command m h, same-number m h)
 
 -- ---- a run cut in two
 
@@ -90,9 +92,9 @@ heard-moved : (R : Row) (lane : ℕ → ℕ) (m : ℕ) → heardAt R lane m ≡ 
 unfolding heardAt
 heard-moved R lane m =
     let g = R .gap in
+    let headers : headerAt g lane m ≡ headerAt g (laneFrom g lane m) 0 = fun-ext (header-at-moved g lane m) in
     let sync : syncBit g lane m ≡ syncBit g (laneFrom g lane m) 0 = fun-ext (sync-moved g lane m) in
-    let invalid : invalidBit g lane m ≡ invalidBit g (laneFrom g lane m) 0 = fun-ext (invalid-moved g lane m) in
-    rw (octets-moved g lane m, sync, invalid)
+    rw (octets-moved g lane m, sync, headers, invalid-moved g lane m)
 
 module _ (R : Row) (lane : ℕ → ℕ) where
   pub heard-from : (a b : ℕ) → heardAt R lane (a + b) ≡ heardAt R (laneFrom (R .gap) lane a) b

@@ -1,6 +1,7 @@
 -- Laws of what the receiver releases.
 pub mod Refusals
 pub mod Cut
+pub mod Bare
 pub mod Counts
 pub mod Verdicts
 pub mod Accepted

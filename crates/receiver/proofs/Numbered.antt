@@ -12,7 +12,7 @@ use lib.Seq.{getD-at, getD-append-add}
 use Rattle.bits.specs.Choice.{pick}
 use Rattle.bits.specs.Order.{bitAt, number}
 use Rattle.frame.specs.declared.modes.Row.{Row}
-use Rattle.frame.specs.Lane.{dataOctets, syncBit}
+use Rattle.frame.specs.Lane.{dataOctets, syncBit, invalidHeaders}
 use Rattle.frame.specs.SyncWord.{readParity}
 use Rattle.scrambler.specs.Scrambling.{descrambled}
 use Rattle.judge.specs.declared.Verdict.{Verdict}
@@ -26,11 +26,15 @@ use Rattle.receiver.proofs.Buffers.{release-length}
 
 -- the release at a number, in a list of them
 abbrev pub nth : List Release → ℕ → Release
-nth out i = getD out i (record { octets = []; status = 0; command = 0; place = 0; pattern = 0 })
+nth out i = getD out i (record { octets = []; status = 0; command = 0; place = 0; pattern = 0; invalid = 0 })
 
 either-octets : (w : Bool) (a b : Step) (l : List ℕ) → a .state .octets ≡ l → b .state .octets ≡ l → pick w a b .state .octets ≡ l
 either-octets true a b l h k = h
 either-octets false a b l h k = k
+
+either-invalid : (w : Bool) (a b : Step) (n : ℕ) → a .state .invalid ≡ n → b .state .invalid ≡ n → pick w a b .state .invalid ≡ n
+either-invalid true a b n h k = h
+either-invalid false a b n h k = k
 
 module _ (R : Row) (lane : ℕ → ℕ) where
   -- the state once multiblocks 0 to i have come: multiblock i waits
@@ -66,6 +70,15 @@ module _ (R : Row) (lane : ℕ → ℕ) where
   pub status-is : (i : ℕ) → releaseAt R lane (suc i) (waiting i) .status ≡ releasedStatus (verdict i) (waiting i .trusted)
   unfolding releaseAt
   status-is i = refl
+
+  -- a release tells its own invalid headers
+  waiting-invalid : (i : ℕ) → waiting i .invalid ≡ invalidHeaders (R .gap) lane i
+  unfolding run step waitingAt
+  waiting-invalid i = either-invalid (run R lane fresh i .state .waiting) _ _ (invalidHeaders (R .gap) lane i) refl refl
+
+  pub invalid-is : (i : ℕ) → releaseAt R lane (suc i) (waiting i) .invalid ≡ invalidHeaders (R .gap) lane i
+  unfolding releaseAt
+  invalid-is i = waiting-invalid i
 
   -- nothing came before the first
   pub first-trusted : waiting 0 .trusted ≡ false

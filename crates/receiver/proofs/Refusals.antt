@@ -4,9 +4,8 @@ use mathlib.Core.Bool.{Bool, true, false, not, _&&_, _||_}
 use mathlib.Core.List.{[], _∷_}
 use Prim.Native.Nat.{ℕ, _-_, _*_, _/_, _%_, _^_, _≤_, _<_}
 use native.Mathlib.Omega.{arith}
-use borrow.Author.Tests.{lt-ltb, le-ltb, eq-eqb, leb-true, eqb-true, ltb-false, not-false}
+use borrow.Author.Tests.{lt-ltb, le-ltb, lt-leb, le-leb, eq-eqb, leb-true, eqb-true, ltb-false, not-false}
 use lib.Dec.{ltb, leb, eqb}
-use Rattle.bits.specs.Choice.{pick}
 use Rattle.bits.specs.Refusals.{_when_, refusalBy}
 use Rattle.bits.proofs.Choice.{parts-true}
 use Rattle.bits.proofs.Refusals.{not-given}
@@ -20,89 +19,97 @@ use Rattle.receiver.specs.inner.Turn.{Room}
 
 -- ---- the state
 
-pub all-fresh : (s : Receiver) (zeros : Bool) → s .history ≡ 0 → s .command ≡ 0 → s .trusted ≡ false → zeros ≡ allZero (s .octets) → zeros ≡ asFresh s
+pub all-fresh : (s : Receiver) (zeros : Bool) → s .history ≡ 0 → s .command ≡ 0 → s .invalid ≡ 0 → s .trusted ≡ false → zeros ≡ allZero (s .octets) → zeros ≡ asFresh s
 unfolding asFresh
-all-fresh s zeros h c t z =
-    z
-    ∙ sym (ap₂ (λ (a b : Bool). (a && eqb (s .command) 0) && (not b && allZero (s .octets))) (eq-eqb (s .history) 0 h) t
-    ∙ ap (λ (a : Bool). a && allZero (s .octets)) (eq-eqb (s .command) 0 c))
+all-fresh s zeros h c i t z = z ∙ sym (simp (eq-eqb (s .history) 0 h, eq-eqb (s .command) 0 c, eq-eqb (s .invalid) 0 i, t))
 
 module _ (flagged : ℕ) (s : Receiver) where
-  fits-by : Bool → Bool → Bool → Bool
-  fits-by h c w = (h && c) && (w || asFresh s)
+  fits-by : Bool → Bool → Bool → Bool → Bool
+  fits-by h c i w = (h && (c && i)) && (w || asFresh s)
 
-  fits-is : stateFits flagged s ≡ fits-by (ltb (s .history) (2 ^ 58)) (ltb (s .command) (flagged)) (s .waiting)
+  fits-is : stateFits flagged s ≡ fits-by (ltb (s .history) (2 ^ 58)) (ltb (s .command) flagged) (leb (s .invalid) 32) (s .waiting)
   unfolding stateFits fits-by asFresh
   fits-is = refl
 
   pub late-history : 2 ^ 58 ≤ s .history → false ≡ stateFits flagged s
   unfolding fits-by
-  late-history h = sym (fits-is ∙ ap (λ (a : Bool). fits-by a (ltb (s .command) (flagged)) (s .waiting)) (le-ltb (s .history) (2 ^ 58) h))
+  late-history h = sym (fits-is ∙ ap (λ (a : Bool). fits-by a (ltb (s .command) flagged) (leb (s .invalid) 32) (s .waiting)) (le-ltb (s .history) (2 ^ 58) h))
 
   module _ (h : s .history < 2 ^ 58) where
-    timely : (c : Bool) → ltb (s .command) (flagged) ≡ c → stateFits flagged s ≡ fits-by true c (s .waiting)
-    timely c e = fits-is ∙ ap₂ (λ (a b : Bool). fits-by a b (s .waiting)) (lt-ltb (s .history) (2 ^ 58) h) e
+    timely : (c : Bool) → ltb (s .command) flagged ≡ c → stateFits flagged s ≡ fits-by true c (leb (s .invalid) 32) (s .waiting)
+    timely c e = fits-is ∙ ap₂ (λ (a b : Bool). fits-by a b (leb (s .invalid) 32) (s .waiting)) (lt-ltb (s .history) (2 ^ 58) h) e
 
     pub wide-command : flagged ≤ s .command → false ≡ stateFits flagged s
     unfolding fits-by
-    wide-command c = sym (timely false (le-ltb (s .command) (flagged) c))
+    wide-command c = sym (timely false (le-ltb (s .command) flagged c))
 
-    pub waiting-fits : s .command < flagged → s .waiting ≡ true → true ≡ stateFits flagged s
-    unfolding fits-by
-    waiting-fits c w = sym (timely true (lt-ltb (s .command) (flagged) c) ∙ ap (fits-by true true) w)
+    module _ (c : s .command < flagged) where
+      narrow : (i : Bool) → leb (s .invalid) 32 ≡ i → stateFits flagged s ≡ fits-by true true i (s .waiting)
+      narrow i e = timely true (lt-ltb (s .command) flagged c) ∙ ap (λ (a : Bool). fits-by true true a (s .waiting)) e
 
-    pub idle-fits : s .command < flagged → s .waiting ≡ false → asFresh s ≡ stateFits flagged s
-    unfolding fits-by
-    idle-fits c w = sym (timely true (lt-ltb (s .command) (flagged) c) ∙ ap (fits-by true true) w)
+      pub many-invalid : 32 < s .invalid → false ≡ stateFits flagged s
+      unfolding fits-by
+      many-invalid i = sym (narrow false (lt-leb (s .invalid) 32 i))
+
+      module _ (i : s .invalid ≤ 32) where
+        pub waiting-fits : s .waiting ≡ true → true ≡ stateFits flagged s
+        unfolding fits-by
+        waiting-fits w = sym (narrow true (le-leb (s .invalid) 32 i) ∙ ap (fits-by true true true) w)
+
+        pub idle-fits : s .waiting ≡ false → asFresh s ≡ stateFits flagged s
+        unfolding fits-by
+        idle-fits w = sym (narrow true (le-leb (s .invalid) 32 i) ∙ ap (fits-by true true true) w)
 
 -- ---- the order of the numbers
 
 -- the table by the numbers that the code goes by
-module _ (mode : ℕ) (s : Receiver) (lane octets statuses commands places patterns most : ℕ) (numbers : Numbers) where
+module _ (mode : ℕ) (s : Receiver) (lane octets statuses commands places patterns invalid most : ℕ) (numbers : Numbers) where
   pub by-code : most ≡ row mode .most → numbers ≡ numbersOf (row mode)
       → refusalBy (
       1 when not (known mode)
       ∷ 3 when not (stateFits (numbers .flagged) s)
       ∷ 4 when not (eqb (lane % numbers .octets) 0)
       ∷ 5 when ltb most (lane / numbers .octets)
-      ∷ 7 when not (roomFor (releases (s .waiting) (lane / numbers .octets)) octets statuses commands places patterns)
+      ∷ 7 when not (roomFor (releases (s .waiting) (lane / numbers .octets)) octets statuses commands places patterns invalid)
       ∷ []
       )
-      ≡ refusalOf mode s lane octets statuses commands places patterns
+      ≡ refusalOf mode s lane octets statuses commands places patterns invalid
   unfolding refusalOf
   by-code e f = rw (e, f)
 
 -- ---- an accepted call
 
-pub record Accepted (mode : ℕ) (s : Receiver) (lane octets statuses commands places patterns : ℕ) : Type 0 where
+pub record Accepted (mode : ℕ) (s : Receiver) (lane octets statuses commands places patterns invalid : ℕ) : Type 0 where
   pub whole : lane % laneOctets (row mode .gap) ≡ 0
   pub few : lane / laneOctets (row mode .gap) ≤ row mode .most
-  pub room : Room (releases (s .waiting) (lane / laneOctets (row mode .gap))) octets statuses commands places patterns
+  pub room : Room (releases (s .waiting) (lane / laneOctets (row mode .gap))) octets statuses commands places patterns invalid
 
-pub room-is : (k octets statuses commands places patterns : ℕ) → roomFor k octets statuses commands places patterns ≡ true → Room k octets statuses commands places patterns
+pub room-is : (k octets statuses commands places patterns invalid : ℕ) → roomFor k octets statuses commands places patterns invalid ≡ true → Room k octets statuses commands places patterns invalid
 unfolding roomFor
-room-is k octets statuses commands places patterns e =
+room-is k octets statuses commands places patterns invalid e =
     let a = parts-true (leb (256 * k) octets) _ e in
     let b = parts-true (leb k statuses) _ (a .1) in
     let c = parts-true (leb k commands) _ (b .1) in
-    let d = parts-true (leb k places) (leb k patterns) (c .1) in
+    let d = parts-true (leb k places) _ (c .1) in
+    let f = parts-true (leb k patterns) (leb k invalid) (d .1) in
     record {
       octets-fit = leb-true _ _ (a .0);
       statuses-fit = leb-true _ _ (b .0);
       commands-fit = leb-true _ _ (c .0);
       places-fit = leb-true _ _ (d .0);
-      patterns-fit = leb-true _ _ (d .1);
+      patterns-fit = leb-true _ _ (f .0);
+      invalid-fit = leb-true _ _ (f .1);
     }
 
-pub accepted : (mode : ℕ) (s : Receiver) (lane octets statuses commands places patterns : ℕ) → refusalOf mode s lane octets statuses commands places patterns ≡ 0
-    → Accepted mode s lane octets statuses commands places patterns
+pub accepted : (mode : ℕ) (s : Receiver) (lane octets statuses commands places patterns invalid : ℕ) → refusalOf mode s lane octets statuses commands places patterns invalid ≡ 0
+    → Accepted mode s lane octets statuses commands places patterns invalid
 unfolding refusalOf
-accepted mode s lane octets statuses commands places patterns e =
-    let lines = refusals mode s lane octets statuses commands places patterns in
+accepted mode s lane octets statuses commands places patterns invalid e =
+    let lines = refusals mode s lane octets statuses commands places patterns invalid in
     record {
       whole = eqb-true _ _ (not-false _ (not-given 4 lines tt e));
       few = ltb-false _ _ (not-given 5 lines tt e);
-      room = room-is _ octets statuses commands places patterns (not-false _ (not-given 7 lines tt e));
+      room = room-is _ octets statuses commands places patterns invalid (not-false _ (not-given 7 lines tt e));
     }
 
 pub releases-le : (waiting : Bool) (n : ℕ) → releases waiting n ≤ n

@@ -28,7 +28,7 @@ use Rattle.receiver.proofs.Cut.{same-step, same-release, heard-from, bi
 -- ---- one turn
 
 -- what the code of a turn computes, put together
-pub turned : (R : Row) (s : Receiver) (lane : List ℕ) (k : ℕ) (o st c p q o′ : List ℕ) (heard : Heard) (r : Released)
+pub turned : (R : Row) (s : Receiver) (lane : List ℕ) (k : ℕ) (o st c p q i o′ : List ℕ) (heard : Heard) (r : Released)
     → s .waiting ≡ true
     → 256 ≤ length o
     → heard ≡ heardAt R (bitAt lane) 0
@@ -38,10 +38,10 @@ pub turned : (R : Row) (s : Receiver) (lane : List ℕ) (k : ℕ) (o st c p q o�
     → r .trusted ≡ trustedAfter (r .verdict)
     → o′ ≡ laidAt (descrambled (mended (r .verdict) (s .octets)) (s .history) 256) 0 o
     → Turned (step R (bitAt lane) 0 s .state) (releaseAt R (bitAt lane) 0 s) k
-    (record { waiting = true; octets = heard .octets; history = r .history; trusted = r .trusted; command = heard .command })
-    o st c p q o′ (set st k (r .status)) (set c k (s .command)) (set p k (r .verdict .place)) (set q k (r .verdict .pattern))
+    (record { waiting = true; octets = heard .octets; history = r .history; trusted = r .trusted; command = heard .command; invalid = heard .invalid })
+    o st c p q i o′ (set st k (r .status)) (set c k (s .command)) (set p k (r .verdict .place)) (set q k (r .verdict .pattern)) (set i k (s .invalid))
 unfolding step waitingAt releaseAt mendedAt verdictAt heardAt
-turned R s lane k o st c p q o′ heard r w room eh ev em ey et eo =
+turned R s lane k o st c p q i o′ heard r w room eh ev em ey et eo =
     let own : r .verdict ≡ verdictAt R (bitAt lane) 0 s = ev ∙ ap (λ (h : Heard). judged (R .sync) (s .octets) (h .parity)) eh in
     record {
       state = rw (w, eh, ey, et, own);
@@ -50,6 +50,7 @@ turned R s lane k o st c p q o′ heard r w room eh ev em ey et eo =
       commands = refl;
       places = rw own;
       patterns = rw own;
+      invalid = refl;
     }
 
 -- a part to the end is what is left
@@ -58,33 +59,37 @@ rest-of lane a = take-all (length lane - a) (drop a lane) (simp length-drop (ome
 
 -- ---- after k turns
 
-pub record Held (R : Row) (lane : ℕ → ℕ) (start : Receiver) (k : ℕ) (s : Receiver) (o₀ st₀ c₀ p₀ q₀ o st c p q : List ℕ) : Type 0 where
+pub record Held (R : Row) (lane : ℕ → ℕ) (start : Receiver) (k : ℕ) (s : Receiver) (o₀ st₀ c₀ p₀ q₀ i₀ o st c p q i : List ℕ) : Type 0 where
   pub state : s ≡ run R lane start k .state
   pub octets : o ≡ laid (octetsOut (run R lane start k .out)) o₀
   pub statuses : st ≡ laid (column (λ (r : Release). r .status) (run R lane start k .out)) st₀
   pub commands : c ≡ laid (column (λ (r : Release). r .command) (run R lane start k .out)) c₀
   pub places : p ≡ laid (column (λ (r : Release). r .place) (run R lane start k .out)) p₀
   pub patterns : q ≡ laid (column (λ (r : Release). r .pattern) (run R lane start k .out)) q₀
+  pub invalid : i ≡ laid (column (λ (r : Release). r .invalid) (run R lane start k .out)) i₀
   pub octets-long : length o ≡ length o₀
   pub statuses-long : length st ≡ length st₀
   pub commands-long : length c ≡ length c₀
   pub places-long : length p ≡ length p₀
   pub patterns-long : length q ≡ length q₀
+  pub invalid-long : length i ≡ length i₀
 
-pub held-none : (R : Row) (lane : ℕ → ℕ) (start : Receiver) (o st c p q : List ℕ) → Held R lane start 0 start o st c p q o st c p q
+pub held-none : (R : Row) (lane : ℕ → ℕ) (start : Receiver) (o st c p q i : List ℕ) → Held R lane start 0 start o st c p q i o st c p q i
 unfolding run octetsOut column
-held-none R lane start o st c p q = record {
+held-none R lane start o st c p q i = record {
   state = refl;
   octets = sym (laid-nothing o);
   statuses = sym (laid-nothing st);
   commands = sym (laid-nothing c);
   places = sym (laid-nothing p);
   patterns = sym (laid-nothing q);
+  invalid = sym (laid-nothing i);
   octets-long = refl;
   statuses-long = refl;
   commands-long = refl;
   places-long = refl;
   patterns-long = refl;
+  invalid-long = refl;
 }
 
 -- one list
@@ -96,15 +101,15 @@ list-more f out r k old was now l h e e′ =
     ∙ laid-set (column f out) old (f r) (omega arith)
     ∙ ap (λ (x : List ℕ). laid x old) (sym (column-more f out r))
 
-module _ (R : Row) (lane : List ℕ) (start : Receiver) (k n : ℕ) (s : Receiver) (o₀ st₀ c₀ p₀ q₀ o st c p q : List ℕ) (w : start .waiting ≡ true) (less : k < n)
-    (room : Room n (length o₀) (length st₀) (length c₀) (length p₀) (length q₀)) (h : Held R (bitAt lane) start k s o₀ st₀ c₀ p₀ q₀ o st c p q) where
+module _ (R : Row) (lane : List ℕ) (start : Receiver) (k n : ℕ) (s : Receiver) (o₀ st₀ c₀ p₀ q₀ i₀ o st c p q i : List ℕ) (w : start .waiting ≡ true) (less : k < n)
+    (room : Room n (length o₀) (length st₀) (length c₀) (length p₀) (length q₀) (length i₀)) (h : Held R (bitAt lane) start k s o₀ st₀ c₀ p₀ q₀ i₀ o st c p q i) where
   pub still-waits : s .waiting ≡ true
   still-waits = ap (λ (x : Receiver). x .waiting) (h .state) ∙ run-waits R (bitAt lane) start k w
 
-  pub held-more : (rest : List ℕ) (r : Receiver) (part st′ c′ p′ q′ : List ℕ) → rest ≡ drop (laneOctets (R .gap) * k) lane → length part ≡ length (midOf (256 * k) (length o - 256 * k) o)
-      → Turned (step R (bitAt rest) 0 s .state) (releaseAt R (bitAt rest) 0 s) k r (midOf (256 * k) (length o - 256 * k) o) st c p q part st′ c′ p′ q′
-      → Held R (bitAt lane) start (k + 1) r o₀ st₀ c₀ p₀ q₀ (putMid (256 * k) (length o - 256 * k) o part) st′ c′ p′ q′
-  held-more rest r part st′ c′ p′ q′ er lp t =
+  pub held-more : (rest : List ℕ) (r : Receiver) (part st′ c′ p′ q′ i′ : List ℕ) → rest ≡ drop (laneOctets (R .gap) * k) lane → length part ≡ length (midOf (256 * k) (length o - 256 * k) o)
+      → Turned (step R (bitAt rest) 0 s .state) (releaseAt R (bitAt rest) 0 s) k r (midOf (256 * k) (length o - 256 * k) o) st c p q i part st′ c′ p′ q′ i′
+      → Held R (bitAt lane) start (k + 1) r o₀ st₀ c₀ p₀ q₀ i₀ (putMid (256 * k) (length o - 256 * k) o part) st′ c′ p′ q′ i′
+  held-more rest r part st′ c′ p′ q′ i′ er lp t =
       let f = bitAt lane in
       let was = run R f start k in
       let out = releaseAt R f k (was .state) in
@@ -135,21 +140,26 @@ module _ (R : Row) (lane : List ℕ) (start : Receiver) (k n : ℕ) (s : Receive
         patterns =
             list-more (λ (x : Release). x .pattern) (was .out) out k q₀ q q′ l (omega (arith, room .patterns-fit)) (h .patterns) (t .patterns ∙ ap (λ (x : Release). set q k (x .pattern)) is)
             ∙ ap (λ (x : List Release). laid (column (λ (y : Release). y .pattern) x) q₀) outs;
+        invalid =
+            list-more (λ (x : Release). x .invalid) (was .out) out k i₀ i i′ l (omega (arith, room .invalid-fit)) (h .invalid) (t .invalid ∙ ap (λ (x : Release). set i k (x .invalid)) is)
+            ∙ ap (λ (x : List Release). laid (column (λ (y : Release). y .invalid) x) i₀) outs;
         octets-long = same-len-mid (256 * k) (length o - 256 * k) o part lp ∙ h .octets-long;
         statuses-long = ap length (t .statuses) ∙ length-set st k _ ∙ h .statuses-long;
         commands-long = ap length (t .commands) ∙ length-set c k _ ∙ h .commands-long;
         places-long = ap length (t .places) ∙ length-set p k _ ∙ h .places-long;
         patterns-long = ap length (t .patterns) ∙ length-set q k _ ∙ h .patterns-long;
+        invalid-long = ap length (t .invalid) ∙ length-set i k _ ∙ h .invalid-long;
       }
 
 -- all turns
-pub held-all : (R : Row) (lane : ℕ → ℕ) (start : Receiver) (k n : ℕ) (s : Receiver) (o₀ st₀ c₀ p₀ q₀ o st c p q : List ℕ) → (0 < n → start .waiting ≡ true) → k ≡ n
-    → Held R lane start k s o₀ st₀ c₀ p₀ q₀ o st c p q → done (record { refusal = 0; count = n; state = s }) o st c p q ≡ laidOut (run R lane start n) o₀ st₀ c₀ p₀ q₀
-held-all R lane start k n s o₀ st₀ c₀ p₀ q₀ o st c p q w e h =
-    rw (h .state, h .octets, h .statuses, h .commands, h .places, h .patterns, ← e)
+pub held-all : (R : Row) (lane : ℕ → ℕ) (start : Receiver) (k n : ℕ) (s : Receiver) (o₀ st₀ c₀ p₀ q₀ i₀ o st c p q i : List ℕ) → (0 < n → start .waiting ≡ true) → k ≡ n
+    → Held R lane start k s o₀ st₀ c₀ p₀ q₀ i₀ o st c p q i → done (record { refusal = 0; count = n; state = s }) o st c p q i ≡ laidOut (run R lane start n) o₀ st₀ c₀ p₀ q₀ i₀
+held-all R lane start k n s o₀ st₀ c₀ p₀ q₀ i₀ o st c p q i w e h =
+    rw (h .state, h .octets, h .statuses, h .commands, h .places, h .patterns, h .invalid, ← e)
     (ap (λ (j : ℕ). done (record { refusal = 0; count = j; state = run R lane start k .state })
     (laid (octetsOut (run R lane start k .out)) o₀)
     (laid (column (λ (r : Release). r .status) (run R lane start k .out)) st₀)
     (laid (column (λ (r : Release). r .command) (run R lane start k .out)) c₀)
     (laid (column (λ (r : Release). r .place) (run R lane start k .out)) p₀)
-    (laid (column (λ (r : Release). r .pattern) (run R lane start k .out)) q₀)) (sym (counted R lane start k (λ l. w (omega arith)))))
+    (laid (column (λ (r : Release). r .pattern) (run R lane start k .out)) q₀)
+    (laid (column (λ (r : Release). r .invalid) (run R lane start k .out)) i₀)) (sym (counted R lane start k (λ l. w (omega arith)))))

@@ -31,7 +31,7 @@ module _ (R : Row) (lane : ℕ → ℕ) where
       j : Judged (R .sync) v
       j = verdict-cases (R .sync) (s .octets) (readParity (R .sync) (syncBit (R .gap) lane m))
 
-      by : (t : Bool) → Released (R .sync) (record { octets = releaseAt R lane m s .octets; status = releasedStatus v t; command = s .command; place = v .place; pattern = v .pattern })
+      by : (t : Bool) → Released (R .sync) (record { octets = releaseAt R lane m s .octets; status = releasedStatus v t; command = s .command; place = v .place; pattern = v .pattern; invalid = s .invalid })
       by true = record {
         status = inl (omega (arith, status-trusted v, j .status));
         cases = subst (λ (x : ℕ). Cases (R .sync) x (v .place) (v .pattern)) {x = v .status} {y = releasedStatus v true % 4} (omega (arith, status-trusted v, j .status)) (j .cases);

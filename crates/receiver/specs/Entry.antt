@@ -30,24 +30,26 @@ pub record Done : Type 0 where
   pub commands : List ℕ
   pub places : List ℕ
   pub patterns : List ℕ
+  pub invalid : List ℕ
 
-abbrev pub done : Received → List ℕ → List ℕ → List ℕ → List ℕ → List ℕ → Done
-done r o s c p q = record { answer = r; octets = o; statuses = s; commands = c; places = p; patterns = q }
+abbrev pub done : Received → List ℕ → List ℕ → List ℕ → List ℕ → List ℕ → List ℕ → Done
+done r o s c p q i = record { answer = r; octets = o; statuses = s; commands = c; places = p; patterns = q; invalid = i }
 
 -- what a step released, laid over the start of each buffer
-abbrev pub laidOut : Step → List ℕ → List ℕ → List ℕ → List ℕ → List ℕ → Done
-laidOut t o s c p q =
+abbrev pub laidOut : Step → List ℕ → List ℕ → List ℕ → List ℕ → List ℕ → List ℕ → Done
+laidOut t o s c p q i =
     done (record { refusal = 0; count = length (t .out); state = t .state })
     (laid (octetsOut (t .out)) o)
     (laid (column (λ (r : Release). r .status) (t .out)) s)
     (laid (column (λ (r : Release). r .command) (t .out)) c)
     (laid (column (λ (r : Release). r .place) (t .out)) p)
     (laid (column (λ (r : Release). r .pattern) (t .out)) q)
+    (laid (column (λ (r : Release). r .invalid) (t .out)) i)
 
 -- refused, with all as it was; or a run over all multiblocks of the lane
-unfoldable pub entry : ℕ → Receiver → List ℕ → List ℕ → List ℕ → List ℕ → List ℕ → List ℕ → Done
-entry mode s lane o st c p q =
-    let refusal = refusalOf mode s (length lane) (length o) (length st) (length c) (length p) (length q) in
+unfoldable pub entry : ℕ → Receiver → List ℕ → List ℕ → List ℕ → List ℕ → List ℕ → List ℕ → List ℕ → Done
+entry mode s lane o st c p q i =
+    let refusal = refusalOf mode s (length lane) (length o) (length st) (length c) (length p) (length q) (length i) in
     pick (eqb refusal 0)
-    (laidOut (run (row mode) (bitAt lane) s (length lane / laneOctets (row mode .gap))) o st c p q)
-    (done (record { refusal = refusal; count = 0; state = s }) o st c p q)
+    (laidOut (run (row mode) (bitAt lane) s (length lane / laneOctets (row mode .gap))) o st c p q i)
+    (done (record { refusal = refusal; count = 0; state = s }) o st c p q i)

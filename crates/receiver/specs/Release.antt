@@ -1,4 +1,5 @@
--- A multiblock waits until the next one has arrived with its parity, and is then released: document 01, "What the receiver releases".
+-- A multiblock waits until the next one has arrived with its parity, and is then released: document 01, "What the receiver releases";
+-- request 1.
 -- A lane is a stream of bits; multiblock m of it is the next to be received. Assumes nothing.
 use mathlib.Core.Bool.{Bool, true, false}
 use mathlib.Core.List.{List, [], _∷_, _++_}
@@ -8,7 +9,7 @@ use Rattle.bits.specs.Choice.{pick}
 use Rattle.bits.specs.Order.{bitAt, number}
 use Rattle.scrambler.specs.Scrambling.{descrambled}
 use Rattle.frame.specs.declared.modes.Row.{Row}
-use Rattle.frame.specs.Lane.{dataOctets, syncBit, invalidBit}
+use Rattle.frame.specs.Lane.{dataOctets, headerAt, syncBit, invalidHeaders}
 use Rattle.frame.specs.SyncWord.{readParity, flaggedCommand}
 use Rattle.judge.specs.declared.Verdict.{Verdict}
 use Rattle.receiver.specs.declared.Receiver.{Receiver}
@@ -16,7 +17,7 @@ use Rattle.judge.specs.Judge.{judged, mended, releasedStatus, trustedAfter}
 
 -- nothing waiting, history 0 and no trust
 abbrev pub fresh : Receiver
-fresh = record { waiting = false; octets = replicate 256 0; history = 0; trusted = false; command = 0 }
+fresh = record { waiting = false; octets = replicate 256 0; history = 0; trusted = false; command = 0; invalid = 0 }
 
 pub record Release : Type 0 where
   pub octets : List ℕ
@@ -24,6 +25,7 @@ pub record Release : Type 0 where
   pub command : ℕ
   pub place : ℕ
   pub pattern : ℕ
+  pub invalid : ℕ  -- how many of its own 32 headers were invalid
 
 -- a state, and what was released on the way to it
 pub record Step : Type 0 where
@@ -45,6 +47,7 @@ module _ (R : Row) (lane : ℕ → ℕ) where
     command = s .command;
     place = verdictAt m s .place;
     pattern = verdictAt m s .pattern;
+    invalid = s .invalid;
   }
 
   -- multiblock m waits from now on, after a history that is trusted or not
@@ -54,7 +57,8 @@ module _ (R : Row) (lane : ℕ → ℕ) where
     octets = dataOctets (R .gap) lane m;
     history = history;
     trusted = trusted;
-    command = flaggedCommand (R .sync) (syncBit (R .gap) lane m) (invalidBit (R .gap) lane m);
+    command = flaggedCommand (R .sync) (headerAt (R .gap) lane m);
+    invalid = invalidHeaders (R .gap) lane m;
   }
 
   -- multiblock m is received: the one that waits, if there is one, is released; the next history is its last 58 bits, mended

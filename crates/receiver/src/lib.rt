@@ -9,13 +9,14 @@ mod run;
 use frame::modes;
 
 // What a receiver carries from one call to the next: whether a multiblock waits, its 256 scrambled octets, the history before it, whether
-// that is trusted, and its command.
+// that is trusted, its command, and how many of its headers were invalid.
 pub struct Receiver {
     pub waiting: bool,
     pub octets: [u8; 256],
     pub history: u64,
     pub trusted: bool,
     pub command: u32,
+    pub invalid: u8,
 }
 
 // A refusal, or 0 with the multiblocks released; and the state for the next call.
@@ -35,12 +36,13 @@ impl Receiver {
             history: 0,
             trusted: false,
             command: 0,
+            invalid: 0,
         }
     }
 }
 
 // Receives the multiblocks of `lane`. Each released multiblock's octets go to 256 times its number in this call, and its status, command,
-// place and pattern to that number.
+// place, pattern and number of invalid headers to that number.
 pub fn receive(
     mode: u8,
     state: Receiver,
@@ -50,9 +52,10 @@ pub fn receive(
     commands: &mut [u32],
     places: &mut [u16],
     patterns: &mut [u16],
+    invalid: &mut [u8],
 ) -> Received
-    ensures { λ r. ⌜ done r (now (octets .exit)) (now (statuses .exit)) (now (commands .exit)) (now (places .exit)) (now (patterns .exit))
-        ≡ entry mode state (now (lane .entry)) (now (octets .entry)) (now (statuses .entry)) (now (commands .entry)) (now (places .entry)) (now (patterns .entry)) ⌝ }
+    ensures { λ r. ⌜ done r (now (octets .exit)) (now (statuses .exit)) (now (commands .exit)) (now (places .exit)) (now (patterns .exit)) (now (invalid .exit))
+        ≡ entry mode state (now (lane .entry)) (now (octets .entry)) (now (statuses .entry)) (now (commands .entry)) (now (places .entry)) (now (patterns .entry)) (now (invalid .entry)) ⌝ }
 {
     let row = modes::row_of(mode);
     let numbers = modes::numbers_of(row);
@@ -67,6 +70,7 @@ pub fn receive(
         commands.len(),
         places.len(),
         patterns.len(),
+        invalid.len(),
     );
     if refusal != 0 {
         return Received {
@@ -91,5 +95,6 @@ pub fn receive(
         commands,
         places,
         patterns,
+        invalid,
     )
 }

@@ -28,6 +28,9 @@ fn as_fresh(state: Receiver) -> bool
     if state.command != 0 {
         return false;
     }
+    if state.invalid != 0 {
+        return false;
+    }
     if state.trusted {
         return false;
     }
@@ -43,6 +46,9 @@ fn state_fits(flagged: u32, state: Receiver) -> bool
         return false;
     }
     if state.command >= flagged {
+        return false;
+    }
+    if state.invalid > 32 {
         return false;
     }
     if state.waiting {
@@ -72,9 +78,10 @@ fn room_for(
     commands: usize,
     places: usize,
     patterns: usize,
+    invalid: usize,
 ) -> bool
     requires { ⌜ k ≤ mostOfAll ⌝ }
-    ensures { λ r. ⌜ r ≡ roomFor k octets statuses commands places patterns ⌝ }
+    ensures { λ r. ⌜ r ≡ roomFor k octets statuses commands places patterns invalid ⌝ }
 {
     if 256 * k > octets {
         return false;
@@ -89,6 +96,9 @@ fn room_for(
         return false;
     }
     if k > patterns {
+        return false;
+    }
+    if k > invalid {
         return false;
     }
     true
@@ -106,9 +116,10 @@ pub(crate) fn refusal_of(
     commands: usize,
     places: usize,
     patterns: usize,
+    invalid: usize,
 ) -> u8
     requires { ⌜ (most ≡ row mode .most) × (numbers ≡ numbersOf (row mode)) ⌝ }
-    ensures { λ r. ⌜ r ≡ refusalOf mode state lane octets statuses commands places patterns ⌝ }
+    ensures { λ r. ⌜ r ≡ refusalOf mode state lane octets statuses commands places patterns invalid ⌝ }
 {
     if !modes::known(mode) {
         return 1;
@@ -125,7 +136,7 @@ pub(crate) fn refusal_of(
         return 5;
     }
     let k = releases(state.waiting, n);
-    if !room_for(k, octets, statuses, commands, places, patterns) {
+    if !room_for(k, octets, statuses, commands, places, patterns, invalid) {
         return 7;
     }
     0

@@ -11,14 +11,17 @@ ghost use Rattle.receiver.specs.Entry.{done, laidOut};
 ghost use Rattle.receiver.specs.inner.Turn.{heardAt, begunBy, Turned, Room};
 use crate::Received;
 use crate::Receiver;
+use frame::headers;
 use frame::modes::Row;
 use frame::sync;
 
-// What a multiblock tells: its data octets as they came, the parity of the one before it, and its command.
+// What a multiblock tells: its data octets as they came, the parity of the one before it, its command, and how many of its
+// headers were invalid.
 pub(crate) struct Heard {
     octets: [u8; 256],
     parity: u32,
     command: u32,
+    invalid: u8,
 }
 
 // The part is of a length that the compiler knows, so that the reader's loop tests none.
@@ -29,12 +32,15 @@ fn hear(row: Row, lane: &[u8]) -> Heard
     let read = multiblock::read(&lane[0..multiblock::OCTETS]);
     let octets = read.octets;
     let kind = row.sync;
-    let parity = sync::parity(kind, read.bits);
-    let command = sync::command(kind, read.bits, read.invalid);
+    let bits = headers::carried(read.first, read.second);
+    let parity = sync::parity(kind, bits);
+    let command = sync::command(kind, read.first, read.second);
+    let invalid = headers::invalid_count(read.first, read.second);
     Heard {
         octets,
         parity,
         command,
+        invalid,
     }
 }
 
@@ -56,17 +62,18 @@ pub(crate) fn begin(row: Row, size: usize, state: Receiver, lane: &[u8]) -> Begu
     if lane.len() < size {
         return Begun { state, taken: 0 };
     }
-    let heard = hear(row, lane);
-    let octets = heard.octets;
-    let first = Receiver {
+    let first = hear(row, lane);
+    let octets = first.octets;
+    let waiting = Receiver {
         waiting: true,
         octets,
         history: 0,
         trusted: false,
-        command: heard.command,
+        command: first.command,
+        invalid: first.invalid,
     };
     Begun {
-        state: first,
+        state: waiting,
         taken: 1,
     }
 }
@@ -82,12 +89,13 @@ fn release(
     commands: &mut [u32],
     places: &mut [u16],
     patterns: &mut [u16],
+    invalid: &mut [u8],
 ) -> Receiver
     requires { ⌜ (row .gap ≡ 0) × (laneOctets (row .gap) ≤ length (now lane)) × (state .waiting ≡ true) × (256 ≤ length (now octets)) ⌝ }
-    requires { ⌜ (k < mostOfAll) × (k < length (now statuses)) × (k < length (now commands)) × (k < length (now places)) × (k < length (now patterns)) ⌝ }
+    requires { ⌜ (k < mostOfAll) × (k < length (now statuses)) × (k < length (now commands)) × (k < length (now places)) × (k < length (now patterns)) × (k < length (now invalid)) ⌝ }
     ensures { λ r. ⌜ Turned (step row (bitAt (now (lane .entry))) 0 state .state) (releaseAt row (bitAt (now (lane .entry))) 0 state) k r
-        (now (octets .entry)) (now (statuses .entry)) (now (commands .entry)) (now (places .entry)) (now (patterns .entry))
-        (now (octets .exit)) (now (statuses .exit)) (now (commands .exit)) (now (places .exit)) (now (patterns .exit)) ⌝ }
+        (now (octets .entry)) (now (statuses .entry)) (now (commands .entry)) (now (places .entry)) (now (patterns .entry)) (now (invalid .entry))
+        (now (octets .exit)) (now (statuses .exit)) (now (commands .exit)) (now (places .exit)) (now (patterns .exit)) (now (invalid .exit)) ⌝ }
 {
     let heard = hear(row, lane);
     let own = state.octets;
@@ -105,6 +113,7 @@ fn release(
     commands[k] = state.command;
     places[k] = verdict.place;
     patterns[k] = verdict.pattern;
+    invalid[k] = state.invalid;
     let next = heard.octets;
     Receiver {
         waiting: true,
@@ -112,6 +121,7 @@ fn release(
         history: released.history,
         trusted: released.trusted,
         command: heard.command,
+        invalid: heard.invalid,
     }
 }
 
@@ -127,13 +137,14 @@ pub(crate) fn run(
     commands: &mut [u32],
     places: &mut [u16],
     patterns: &mut [u16],
+    invalid: &mut [u8],
 ) -> Received
     requires { ⌜ (row .gap ≡ 0) × (size ≡ laneOctets (row .gap)) ⌝ }
     requires { ⌜ (0 < n → start .waiting ≡ true) × (size * n ≤ length (now lane)) × (n ≤ mostOfAll) ⌝ }
-    requires { ⌜ Room n (length (now octets)) (length (now statuses)) (length (now commands)) (length (now places)) (length (now patterns)) ⌝ }
-    ensures { λ r. ⌜ done r (now (octets .exit)) (now (statuses .exit)) (now (commands .exit)) (now (places .exit)) (now (patterns .exit))
+    requires { ⌜ Room n (length (now octets)) (length (now statuses)) (length (now commands)) (length (now places)) (length (now patterns)) (length (now invalid)) ⌝ }
+    ensures { λ r. ⌜ done r (now (octets .exit)) (now (statuses .exit)) (now (commands .exit)) (now (places .exit)) (now (patterns .exit)) (now (invalid .exit))
         ≡ laidOut (run row (bitAt (now (lane .entry))) start n)
-        (now (octets .entry)) (now (statuses .entry)) (now (commands .entry)) (now (places .entry)) (now (patterns .entry)) ⌝ }
+        (now (octets .entry)) (now (statuses .entry)) (now (commands .entry)) (now (places .entry)) (now (patterns .entry)) (now (invalid .entry)) ⌝ }
 {
     let mut state = start;
     for k in 0..n {
@@ -148,6 +159,7 @@ pub(crate) fn run(
             commands,
             places,
             patterns,
+            invalid,
         );
         state = next;
     }

@@ -17,13 +17,14 @@ use Rattle.parity.specs.Codeword.{parityOf}
 use Rattle.parity.proofs.Codeword.{parity-lt}
 use Rattle.frame.specs.declared.modes.Row.{Row}
 use Rattle.frame.specs.Modes.{parity, code}
-use Rattle.frame.specs.Headers.{headerOf}
-use Rattle.frame.specs.Lane.{laneOctets, dataBit, headerAt, syncBit, dataOctets, multiblockBit}
+use Rattle.frame.specs.Headers.{invalid, headerOf}
+use Rattle.frame.specs.Lane.{laneOctets, dataBit, valueAt, headerAt, syncBit, dataOctets, multiblockBit}
 use Rattle.frame.specs.SyncWord.{held, syncWord, readParity}
 use Rattle.scrambler.specs.Scrambling.{sent, historyAfter, scrambled}
 use Rattle.frame.proofs.Rows.{proper}
-use Rattle.frame.proofs.SyncWord.{all-stand, fieldAt, held-digit, only-parity, reads-parity}
-use Rattle.frame.proofs.Lane.{laneFrom, data-moved, header-at-moved, sync-moved, octets-moved, data-back, header-back, sync-back, octets-back, multiblock-bits}
+use Rattle.frame.proofs.SyncWord.{all-stand, fieldAt, held-lt, held-digit, only-parity, reads-parity}
+use Rattle.frame.proofs.Reading.{header-valid}
+use Rattle.frame.proofs.Lane.{laneFrom, header-by-value, data-moved, value-moved, sync-moved, octets-moved, data-back, value-back, sync-back, octets-back, multiblock-bits}
 use Rattle.scrambler.proofs.Scrambling.{length-scrambled, scrambled-bit, scrambled-lt, sent-ext, sent-add, history-ext, history-add, history-none}
 use Rattle.sender.specs.declared.Sender.{Sender}
 use Rattle.sender.specs.Lane.{last, sentOne, afterOne, lane, after}
@@ -129,13 +130,18 @@ module _ (R : Row) (E : ℕ) (s : Sender) (user commands : List ℕ) (given : 25
   pub sync-sent : (i t : ℕ) → i < length commands → t < 32 → syncBit (R .gap) (bitAt all) i t ≡ digit 32 (word i) t
   sync-sent i t h l = sync-moved (R .gap) (bitAt all) i t ∙ sync-back (R .gap) (word i) (octets i) (laneFrom (R .gap) (bitAt all) i) (begins i h) t l
 
-  -- its headers
-  pub header-sent : (i t : ℕ) → i < length commands → t < 32
-      → headerAt (R .gap) (bitAt all) i t ≡ headerOf (held (before i .parity) (getD commands i 0) (bitOf (last E (before i))) (fieldAt (R .sync) t))
-  header-sent i t h l =
-      header-at-moved (R .gap) (bitAt all) i t
-      ∙ header-back (R .gap) (word i) (octets i) (laneFrom (R .gap) (bitAt all) i) (begins i h) t l
+  -- the values of its headers
+  pub value-sent : (i t : ℕ) → i < length commands → t < 32
+      → valueAt (R .gap) (bitAt all) i t ≡ headerOf (held (before i .parity) (getD commands i 0) (bitOf (last E (before i))) (fieldAt (R .sync) t))
+  value-sent i t h l =
+      value-moved (R .gap) (bitAt all) i t
+      ∙ value-back (R .gap) (word i) (octets i) (laneFrom (R .gap) (bitAt all) i) (begins i h) t l
       ∙ ap headerOf (held-digit (R .sync) (before i .parity) (getD commands i 0) (bitOf (last E (before i))) t l)
+
+  pub valid-sent : (i t : ℕ) → i < length commands → t < 32 → invalid (headerAt (R .gap) (bitAt all) i t) ≡ false
+  valid-sent i t h l =
+      ap invalid (header-by-value (R .gap) (bitAt all) i t _ (value-sent i t h l))
+      ∙ header-valid (held (before i .parity) (getD commands i 0) (bitOf (last E (before i))) (fieldAt (R .sync) t)) (held-lt _ _ _ (fieldAt (R .sync) t))
 
   module _ (fits : s .history < 2 ^ 58) where
     pub data-sent : (i q : ℕ) → i < length commands → q < 2048 → dataBit (R .gap) (bitAt all) i q ≡ sent (bitAt user) (s .history) (2048 * i + q)

@@ -1,4 +1,5 @@
-// Tables of the standard row by row, and sync words, as the library computes them. The second program prints the same lines.
+// Tables of the standard row by row, sync words and headers, as the library computes them. The second program prints the same lines.
+mod headers;
 mod parities;
 mod scrambling;
 mod text;
@@ -12,4 +13,6 @@ fn main() {
     words::write_crc12_words();
     words::write_fec_words();
     words::write_invalid_headers();
+    headers::write_values();
+    headers::write_words();
 }

@@ -34,8 +34,11 @@ pub(crate) fn write_field(value: u64, digits: usize)
     write(b" ");
 }
 
-// A number below 100 in decimal.
+// A number below 1,000 in decimal.
 pub(crate) fn write_decimal(value: u64) {
+    if value >= 100 {
+        write_hex(value / 100 % 10, 1);
+    }
     if value >= 10 {
         write_hex(value / 10 % 10, 1);
     }

@@ -6,11 +6,11 @@ use frame::modes::Sync;
 use frame::sync;
 ghost use Prim.Native.Nat.{_<_, _≤_};
 
-// The parity and the command read from a sync word.
+// The parity and the command read from a sync word, whose headers are all valid.
 fn write_read(kind: Sync, word: u32) {
     text::write(b"read ");
     text::write_field(sync::parity(kind, word) as u64, 7);
-    text::write_hex(sync::command(kind, word, 0) as u64, 2);
+    text::write_hex(sync::command(kind, word ^ 0xFFFF_FFFF, word) as u64, 2);
     text::write(b"\n");
 }
 
@@ -100,14 +100,15 @@ pub(crate) fn write_fec_words() {
     write_generated(1);
 }
 
-// The command of a CRC-12 word of zeros in which the header at one position is invalid; position 0 is the highest bit.
+// The command of a CRC-12 word of zeros in which the header at one position is 00; position 0 is the highest bit.
 fn write_invalid_header(position: u32)
     requires { ⌜ position < 32 ⌝ }
 {
     text::write(b"command invalid ");
     text::write_decimal(position as u64);
     text::write(b" -> ");
-    let command = sync::command(Sync::Crc12, 0, 0x8000_0000u32 >> position);
+    let first = 0xFFFF_FFFF ^ (0x8000_0000u32 >> position);
+    let command = sync::command(Sync::Crc12, first, 0);
     text::write_hex(command as u64, 2);
     text::write(b"\n");
 }

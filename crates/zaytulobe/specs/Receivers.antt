@@ -12,7 +12,21 @@ fit x = isBool (x .waiting) && isBool (x .trusted)
 
 -- the state that numbers stand for, and the numbers of a state
 unfoldable pub stateOf : ReceiverNumbers → Receiver
-stateOf x = record { waiting = boolOf (x .waiting); octets = x .octets; history = x .history; trusted = boolOf (x .trusted); command = x .command }
+stateOf x = record {
+  waiting = boolOf (x .waiting);
+  octets = x .octets;
+  history = x .history;
+  trusted = boolOf (x .trusted);
+  command = x .command;
+  invalid = x .invalid;
+}
 
 unfoldable pub asNumbers : Receiver → ReceiverNumbers
-asNumbers s = record { history = s .history; command = s .command; waiting = bitOf (s .waiting); trusted = bitOf (s .trusted); octets = s .octets }
+asNumbers s = record {
+  history = s .history;
+  command = s .command;
+  waiting = bitOf (s .waiting);
+  trusted = bitOf (s .trusted);
+  octets = s .octets;
+  invalid = s .invalid;
+}

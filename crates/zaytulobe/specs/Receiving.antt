@@ -21,24 +21,25 @@ pub record Done : Type 0 where
   pub commands : List ℕ
   pub places : List ℕ
   pub patterns : List ℕ
+  pub invalid : List ℕ
 
-abbrev pub done : ReceivedNumbers → List ℕ → List ℕ → List ℕ → List ℕ → List ℕ → Done
-done r o s c p q = record { answer = r; octets = o; statuses = s; commands = c; places = p; patterns = q }
+abbrev pub done : ReceivedNumbers → List ℕ → List ℕ → List ℕ → List ℕ → List ℕ → List ℕ → Done
+done r o s c p q i = record { answer = r; octets = o; statuses = s; commands = c; places = p; patterns = q; invalid = i }
 
 -- the receiver's answer in numbers, and its buffers
 unfoldable pub inNumbers : receiver.Done → Done
 inNumbers d =
     done (record { refusal = d .answer .refusal; count = d .answer .count; state = asNumbers (d .answer .state) })
-    (d .octets) (d .statuses) (d .commands) (d .places) (d .patterns)
+    (d .octets) (d .statuses) (d .commands) (d .places) (d .patterns) (d .invalid)
 
 -- what is asked before numbers are read as a state
 abbrev pub refusals : ℕ → ReceiverNumbers → List Line
 refusals mode x = 1 when not (known mode) ∷ 3 when not (fit x) ∷ []
 
 -- refused by that, with all as it was; or the receiver's entry from the state that the numbers stand for
-unfoldable pub receiveNumbers : ℕ → ReceiverNumbers → List ℕ → List ℕ → List ℕ → List ℕ → List ℕ → List ℕ → Done
-receiveNumbers mode x lane o s c p q =
+unfoldable pub receiveNumbers : ℕ → ReceiverNumbers → List ℕ → List ℕ → List ℕ → List ℕ → List ℕ → List ℕ → List ℕ → Done
+receiveNumbers mode x lane o s c p q i =
     let refusal = refusalBy (refusals mode x) in
     pick (eqb refusal 0)
-    (inNumbers (entry mode (stateOf x) lane o s c p q))
-    (done (record { refusal = refusal; count = 0; state = x }) o s c p q)
+    (inNumbers (entry mode (stateOf x) lane o s c p q i))
+    (done (record { refusal = refusal; count = 0; state = x }) o s c p q i)

@@ -12,6 +12,7 @@ pub struct ReceiverNumbers {
     pub waiting: u8,
     pub trusted: u8,
     pub octets: [u8; 256],
+    pub invalid: u8,
 }
 
 // Whether both bools are 0 or 1.
@@ -32,6 +33,7 @@ pub(crate) fn state_of(given: ReceiverNumbers) -> Receiver
         history: given.history,
         trusted: given.trusted == 1,
         command: given.command,
+        invalid: given.invalid,
     }
 }
 
@@ -46,5 +48,6 @@ pub(crate) fn as_numbers(state: Receiver) -> ReceiverNumbers
         waiting: state.waiting as u8,
         trusted: state.trusted as u8,
         octets,
+        invalid: state.invalid,
     }
 }

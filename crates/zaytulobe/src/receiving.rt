@@ -49,9 +49,10 @@ pub extern "C" fn zaytulobe_receive(
     commands: &mut [u32],
     places: &mut [u16],
     patterns: &mut [u16],
+    invalid: &mut [u8],
 ) -> ReceivedNumbers
-    ensures { λ r. ⌜ done r (now (octets .exit)) (now (statuses .exit)) (now (commands .exit)) (now (places .exit)) (now (patterns .exit))
-        ≡ receiveNumbers mode state (now (lane .entry)) (now (octets .entry)) (now (statuses .entry)) (now (commands .entry)) (now (places .entry)) (now (patterns .entry)) ⌝ }
+    ensures { λ r. ⌜ done r (now (octets .exit)) (now (statuses .exit)) (now (commands .exit)) (now (places .exit)) (now (patterns .exit)) (now (invalid .exit))
+        ≡ receiveNumbers mode state (now (lane .entry)) (now (octets .entry)) (now (statuses .entry)) (now (commands .entry)) (now (places .entry)) (now (patterns .entry)) (now (invalid .entry)) ⌝ }
 {
     let refusal = refusal_of(mode, state);
     if refusal != 0 {
@@ -71,6 +72,7 @@ pub extern "C" fn zaytulobe_receive(
         commands,
         places,
         patterns,
+        invalid,
     );
     let after = received.state;
     let numbers = receivers::as_numbers(after);

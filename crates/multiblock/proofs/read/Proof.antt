@@ -9,9 +9,9 @@ use denote.Ref.{now}
 use Rattle.bits.specs.Order.{bitAt, digit, number, octetsOf, laid, laidAt}
 use Rattle.bits.proofs.Numbers.{bitAt-lt, number-none}
 use Rattle.bits.proofs.Laid.{laid-none, laid-word}
-use Rattle.frame.specs.Lane.{dataBit}
+use Rattle.frame.specs.Lane.{firstBit, secondBit, dataBit}
 use Rattle.frame.proofs.Lane.{dataBit-lt}
-use Rattle.frame.proofs.Packing.{firstBit, secondBit, data-read, first-more, second-more, sync-read, invalid-read, octets-read}
+use Rattle.frame.proofs.Packing.{data-read, first-more, second-more, octets-read}
 use Rattle.multiblock.proofs.read.Statement.{statement}
 use Rattle.multiblock.proofs.read.Tie as tie
 
@@ -19,8 +19,8 @@ abbrev Inv-loop : tie.InvT-loop
 Inv-loop lane octets₀ first₀ second₀ word₀ block₀ octets first second word block =
     (block ≤ 32)
     × (length octets ≡ 256)
-    × (first ≡ number (firstBit (bitAt lane)) 0 block)
-    × (second ≡ number (secondBit (bitAt lane)) 0 block)
+    × (first ≡ number (firstBit 0 (bitAt lane) 0) 0 block)
+    × (second ≡ number (secondBit 0 (bitAt lane) 0) 0 block)
     × (word ≡ number (bitAt lane) (64 * block) 64)
     × (octets ≡ laid (octetsOf (dataBit 0 (bitAt lane) 0) (8 * block)) octets₀)
 
@@ -32,7 +32,7 @@ word-at-requires c κs = search needs
 
 loop-holds : tie.Need-loop-holds Inv-loop μ-loop
 loop-holds c =
-    let lane = bitAt (now (c .before .before .args .lane)) in (search needs, refl, number-none (firstBit lane) 0, number-none (secondBit lane) 0, c .word-at .ensures, laid-none (dataBit 0 lane 0) _)
+    let lane = bitAt (now (c .before .before .args .lane)) in (search needs, refl, number-none (firstBit 0 lane 0) 0, number-none (secondBit 0 lane 0) 0, c .word-at .ensures, laid-none (dataBit 0 lane 0) _)
 
 add-word-at : tie.Need-add-word-at Inv-loop μ-loop
 add-word-at c = search needs
@@ -89,14 +89,10 @@ loop-again c =
 returns : tie.Need-returns Inv-loop μ-loop
 returns c =
     let l = c .before .loop in
-    let octets = now (c .before .before .before .before .args .lane) in
-    let lane = bitAt octets in
-    let bits = bitAt-lt octets in
-    let e : l .block ≡ 32 = omega arith in
-    let first = l .inv .2 ∙ ap (number (firstBit lane) 0) e in
-    let second = l .inv .3 ∙ ap (number (secondBit lane) 0) e in (
+    let lane = bitAt (now (c .before .before .before .before .args .lane)) in
+    let e : l .block ≡ 32 = omega arith in (
       octets-read lane (l .block) _ e refl (l .inv .5),
-      (sync-read lane bits (l .first) (l .second) first second, invalid-read lane bits (l .first) (l .second) first second),
+      (l .inv .2 ∙ ap (number (firstBit 0 lane 0) 0) e, l .inv .3 ∙ ap (number (secondBit 0 lane 0) 0) e),
     )
 
 pub read-spec : {M : Type 1} → statement M

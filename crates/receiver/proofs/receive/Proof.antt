@@ -7,7 +7,7 @@ use native.Mathlib.Omega.{arith}
 use lib.ListN.{length}
 use Rattle.frame.specs.declared.modes.Row.{Row}
 use Rattle.frame.specs.declared.modes.Numbers.{Numbers}
-use Rattle.frame.specs.Modes.{row, numbersOf}
+use Rattle.frame.specs.Modes.{numbersOf}
 use Rattle.frame.proofs.Rows.{no-gap}
 use Rattle.frame.proofs.Sizes.{octets-some}
 use Rattle.receiver.specs.inner.Turn.{begunBy}
@@ -29,14 +29,14 @@ refusal-of-requires c κs =
 
 returns : tie.Need-returns
 returns c =
-    let s = c .before .before .before .before .before .before .before .before .before .before in
+    let s = c .before .before .before .before .before .before .before .before .before .before .before in
     let a = s .args in
     let f = c .before .refusal-of in
-    is-refused (a .mode) (a .state) (now (a .lane)) (now (a .octets)) (now (a .statuses)) (now (a .commands)) (now (a .places)) (now (a .patterns)) (f .result) (f .ensures) (c .if1 .taken)
+    is-refused (a .mode) (a .state) (now (a .lane)) (now (a .octets)) (now (a .statuses)) (now (a .commands)) (now (a .places)) (now (a .patterns)) (now (a .invalid)) (f .result) (f .ensures) (c .if1 .taken)
 
 begin-requires : tie.Need-begin-requires
 begin-requires c κs =
-    (ap (λ (x : Row). x .gap) (c .before .before .before .row-of .ensures) ∙ no-gap (c .before .before .before .before .before .before .before .before .before .before .args .mode), ap (λ (x : Numbers). x .octets) (c .before .before .numbers-of .ensures))
+    (ap (λ (x : Row). x .gap) (c .before .before .before .row-of .ensures) ∙ no-gap (c .before .before .before .before .before .before .before .before .before .before .before .args .mode), ap (λ (x : Numbers). x .octets) (c .before .before .numbers-of .ensures))
 
 div-n : tie.Need-div-n
 div-n c = omega (arith, ap (λ (x : Numbers). x .octets) (c .before .before .before .before .numbers-of .ensures), octets-some (c .before .before .before .before .before .row-of .result .gap))
@@ -44,12 +44,12 @@ div-n c = omega (arith, ap (λ (x : Numbers). x .octets) (c .before .before .bef
 sub-n : tie.Need-sub-n
 sub-n c =
     let size = ap (λ (x : Numbers). x .octets) (c .before .before .before .before .before .numbers-of .ensures) in
-    taken-within _ _ (length (now (c .before .before .before .before .before .before .before .before .before .before .before .before .before .args .lane))) (omega (arith, size, octets-some (c .before .before .before .before .before .before .row-of .result .gap))) (c .before .before .begin .ensures .1 .1)
+    taken-within _ _ (length (now (c .before .before .before .before .before .before .before .before .before .before .before .before .before .before .args .lane))) (omega (arith, size, octets-some (c .before .before .before .before .before .before .row-of .result .gap))) (c .before .before .begin .ensures .1 .1)
 
 mul-from : tie.Need-mul-from
 mul-from c =
-    let at : c .before .before .before .before .before .before .numbers-of .result .octets * c .before .before .before .begin .result .taken ≤ length (now (c .before .before .before .before .before .before .before .before .before .before .before .before .before .before .args .lane)) = c .before .before .before .begin .ensures .1 .1 in
-    let within : c .before .before .before .before .before .before .numbers-of .result .octets * c .before .before .before .begin .result .taken < 2 ^ 64 = omega (arith, at, c .before .before .before .before .before .before .before .before .before .before .before .before .before .before .good .1 .1 .0) in
+    let at : c .before .before .before .before .before .before .numbers-of .result .octets * c .before .before .before .begin .result .taken ≤ length (now (c .before .before .before .before .before .before .before .before .before .before .before .before .before .before .before .args .lane)) = c .before .before .before .begin .ensures .1 .1 in
+    let within : c .before .before .before .before .before .before .numbers-of .result .octets * c .before .before .before .begin .result .taken < 2 ^ 64 = omega (arith, at, c .before .before .before .before .before .before .before .before .before .before .before .before .before .before .before .good .1 .1 .0) in
     record { fits = within }
 
 sub-run : tie.Need-sub-run
@@ -63,43 +63,46 @@ part-run-end c = search needs
 
 run-requires : tie.Need-run-requires
 run-requires c κs =
-    let s = c .before .before .before .before .before .before .before .before .before .before .before .before .before .before .before .before .before .before .before .before in
+    let s = c .before .before .before .before .before .before .before .before .before .before .before .before .before .before .before .before .before .before .before .before .before .before in
     let a = s .args in
-    let f = c .before .before .before .before .before .before .before .before .before .before .before .refusal-of in
-    let b = c .before .before .before .before .before .before .before .before .before .begin in
-    let own = c .before .before .before .before .before .before .before .before .before .before .before .before .before .row-of .ensures in
-    let numbers = c .before .before .before .before .before .before .before .before .before .before .before .before .numbers-of .ensures in
+    let f = c .before .before .before .before .before .before .before .before .before .before .before .before .refusal-of in
+    let b = c .before .before .before .before .before .before .before .before .before .before .begin in
+    let own = c .before .before .before .before .before .before .before .before .before .before .before .before .before .before .row-of .ensures in
+    let numbers = c .before .before .before .before .before .before .before .before .before .before .before .before .before .numbers-of .ensures in
     let size = ap (λ (x : Numbers). x .octets) (numbers ∙ ap numbersOf own) in
     let narrow = ap (λ (x : Row). x .gap) own ∙ no-gap (a .mode) in
-    let given = ready (a .mode) (a .state) (now (a .lane)) (now (a .octets)) (now (a .statuses)) (now (a .commands)) (now (a .places)) (now (a .patterns)) (f .result) (f .ensures) (c .before .before .before .before .before .before .before .before .before .before .if1 .left) (b .result) (b .ensures .0 ∙ ap (λ (x : Row). begunBy x (a .state) (now (a .lane))) own) _ size in
+    let given = ready (a .mode) (a .state) (now (a .lane)) (now (a .octets)) (now (a .statuses)) (now (a .commands)) (now (a .places)) (now (a .patterns)) (now (a .invalid)) (f .result) (f .ensures) (c .before .before .before .before .before .before .before .before .before .before .before .if1 .left) (b .result) (b .ensures .0 ∙ ap (λ (x : Row). begunBy x (a .state) (now (a .lane))) own) _ size in
     ((narrow, ap (λ (x : Numbers). x .octets) numbers), (given .0, given .1))
 
 same-length : tie.Need-same-length
-same-length c = c .before .before .before .before .before .before .before .before .before .before .run .kept .1 .1 .1 .1 .1 .0
+same-length c = c .before .before .before .before .before .before .before .before .before .before .before .before .run .kept .1 .1 .1 .1 .1 .0
 
 same-length-2 : tie.Need-same-length-2
-same-length-2 c = c .before .before .before .before .before .before .before .before .before .before .run .kept .1 .1 .1 .1 .1 .1 .0
+same-length-2 c = c .before .before .before .before .before .before .before .before .before .before .before .before .run .kept .1 .1 .1 .1 .1 .1 .0
 
 same-length-3 : tie.Need-same-length-3
-same-length-3 c = c .before .before .before .before .before .before .before .before .before .before .run .kept .1 .1 .1 .1 .1 .1 .1 .0
+same-length-3 c = c .before .before .before .before .before .before .before .before .before .before .before .before .run .kept .1 .1 .1 .1 .1 .1 .1 .0
 
 same-length-4 : tie.Need-same-length-4
-same-length-4 c = c .before .before .before .before .before .before .before .before .before .before .run .kept .1 .1 .1 .1 .1 .1 .1 .1 .0
+same-length-4 c = c .before .before .before .before .before .before .before .before .before .before .before .before .run .kept .1 .1 .1 .1 .1 .1 .1 .1 .0
 
 same-length-5 : tie.Need-same-length-5
-same-length-5 c = c .before .before .before .before .before .before .before .before .before .before .run .kept .1 .1 .1 .1 .1 .1 .1 .1 .1 .0
+same-length-5 c = c .before .before .before .before .before .before .before .before .before .before .before .before .run .kept .1 .1 .1 .1 .1 .1 .1 .1 .1 .0
+
+same-length-6 : tie.Need-same-length-6
+same-length-6 c = c .before .before .before .before .before .before .before .before .before .before .before .before .run .kept .1 .1 .1 .1 .1 .1 .1 .1 .1 .1 .0
 
 returns-2 : tie.Need-returns-2
 returns-2 c =
-    let s = c .before .before .before .before .before .before .before .before .before .before .before .before .before .before .before .before .before .before .before .before .before .before .before .before .before .before .before .before .before .before .before in
+    let s = c .before .before .before .before .before .before .before .before .before .before .before .before .before .before .before .before .before .before .before .before .before .before .before .before .before .before .before .before .before .before .before .before .before .before .before in
     let a = s .args in
-    let f = c .before .before .before .before .before .before .before .before .before .before .before .before .before .before .before .before .before .before .before .before .before .before .refusal-of in
-    let b = c .before .before .before .before .before .before .before .before .before .before .before .before .before .before .before .before .before .before .before .before .begin in
-    let r = c .before .before .before .before .before .before .before .before .before .before .run in
-    let own = c .before .before .before .before .before .before .before .before .before .before .before .before .before .before .before .before .before .before .before .before .before .before .before .before .row-of .ensures in
-    let numbers = c .before .before .before .before .before .before .before .before .before .before .before .before .before .before .before .before .before .before .before .before .before .before .before .numbers-of .ensures in
+    let f = c .before .before .before .before .before .before .before .before .before .before .before .before .before .before .before .before .before .before .before .before .before .before .before .before .before .refusal-of in
+    let b = c .before .before .before .before .before .before .before .before .before .before .before .before .before .before .before .before .before .before .before .before .before .before .before .begin in
+    let r = c .before .before .before .before .before .before .before .before .before .before .before .before .run in
+    let own = c .before .before .before .before .before .before .before .before .before .before .before .before .before .before .before .before .before .before .before .before .before .before .before .before .before .before .before .row-of .ensures in
+    let numbers = c .before .before .before .before .before .before .before .before .before .before .before .before .before .before .before .before .before .before .before .before .before .before .before .before .before .before .numbers-of .ensures in
     let size = ap (λ (x : Numbers). x .octets) (numbers ∙ ap numbersOf own) in
-    is-all (a .mode) (a .state) (now (a .lane)) (now (a .octets)) (now (a .statuses)) (now (a .commands)) (now (a .places)) (now (a .patterns)) (f .result) (f .ensures) (c .before .before .before .before .before .before .before .before .before .before .before .before .before .before .before .before .before .before .before .before .before .if1 .left) (b .result) (b .ensures .0 ∙ ap (λ (x : Row). begunBy x (a .state) (now (a .lane))) own) _ own _ size (r .result) _ _ _ _ _ (r .ensures)
+    is-all (a .mode) (a .state) (now (a .lane)) (now (a .octets)) (now (a .statuses)) (now (a .commands)) (now (a .places)) (now (a .patterns)) (now (a .invalid)) (f .result) (f .ensures) (c .before .before .before .before .before .before .before .before .before .before .before .before .before .before .before .before .before .before .before .before .before .before .before .before .if1 .left) (b .result) (b .ensures .0 ∙ ap (λ (x : Row). begunBy x (a .state) (now (a .lane))) own) _ own _ size (r .result) _ _ _ _ _ _ (r .ensures)
 
 pub receive-spec : {M : Type 1} → statement M
 receive-spec =
@@ -122,4 +125,5 @@ receive-spec =
     same-length-3
     same-length-4
     same-length-5
+    same-length-6
     returns-2)

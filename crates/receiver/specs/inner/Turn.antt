@@ -8,7 +8,7 @@ use lib.ListN.{length, set}
 use Rattle.bits.specs.Choice.{pick}
 use Rattle.bits.specs.Order.{bitAt, laid}
 use Rattle.frame.specs.declared.modes.Row.{Row}
-use Rattle.frame.specs.Lane.{laneOctets, dataOctets, syncBit, invalidBit}
+use Rattle.frame.specs.Lane.{laneOctets, dataOctets, headerAt, syncBit, invalidHeaders}
 use Rattle.frame.specs.SyncWord.{readParity, flaggedCommand}
 use Rattle.receiver.specs.declared.Receiver.{Receiver}
 use Rattle.receiver.specs.declared.run.Heard.{Heard}
@@ -20,7 +20,8 @@ unfoldable pub heardAt : Row → (ℕ → ℕ) → ℕ → Heard
 heardAt R lane m = record {
   octets = dataOctets (R .gap) lane m;
   parity = readParity (R .sync) (syncBit (R .gap) lane m);
-  command = flaggedCommand (R .sync) (syncBit (R .gap) lane m) (invalidBit (R .gap) lane m);
+  command = flaggedCommand (R .sync) (headerAt (R .gap) lane m);
+  invalid = invalidHeaders (R .gap) lane m;
 }
 
 -- the state from which each multiblock received releases one, and how many of the lane's were taken for it
@@ -31,18 +32,20 @@ begunBy R s lane =
     (record { state = waitingAt R (bitAt lane) 0 0 false; taken = 1 }))
 
 -- buffers of these lengths hold what k releases write
-pub record Room (k octets statuses commands places patterns : ℕ) : Type 0 where
+pub record Room (k octets statuses commands places patterns invalid : ℕ) : Type 0 where
   pub octets-fit : 256 * k ≤ octets
   pub statuses-fit : k ≤ statuses
   pub commands-fit : k ≤ commands
   pub places-fit : k ≤ places
   pub patterns-fit : k ≤ patterns
+  pub invalid-fit : k ≤ invalid
 
 -- one release: its octets at the start of the part lent, and place k of each list
-pub record Turned (next : Receiver) (out : Release) (k : ℕ) (r : Receiver) (o s c p q o′ s′ c′ p′ q′ : List ℕ) : Type 0 where
+pub record Turned (next : Receiver) (out : Release) (k : ℕ) (r : Receiver) (o s c p q i o′ s′ c′ p′ q′ i′ : List ℕ) : Type 0 where
   pub state : r ≡ next
   pub octets : o′ ≡ laid (out .octets) o
   pub statuses : s′ ≡ set s k (out .status)
   pub commands : c′ ≡ set c k (out .command)
   pub places : p′ ≡ set p k (out .place)
   pub patterns : q′ ≡ set q k (out .pattern)
+  pub invalid : i′ ≡ set i k (out .invalid)

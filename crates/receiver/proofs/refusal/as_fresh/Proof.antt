@@ -18,7 +18,12 @@ returns-2 c = simp (eq-eqb _ _ (c .before .before .if1 .left), ne-eqb _ _ (c .if
 
 returns-3 : tie.Need-returns-3
 unfolding asFresh
-returns-3 c = simp (eq-eqb _ _ (c .before .before .before .if1 .left), eq-eqb _ _ (c .before .if2 .left), c .if3 .taken)
+returns-3 c = simp (eq-eqb _ _ (c .before .before .before .before .if1 .left), eq-eqb _ _ (c .before .before .if2 .left), ne-eqb _ _ (c .if3 .taken))
+
+returns-4 : tie.Need-returns-4
+unfolding asFresh
+returns-4 c =
+    simp (eq-eqb _ _ (c .before .before .before .before .before .if1 .left), eq-eqb _ _ (c .before .before .before .if2 .left), eq-eqb _ _ (c .before .if3 .left), c .if4 .taken)
 
 slice-aggregate-all-zero : tie.Need-slice-aggregate-all-zero
 slice-aggregate-all-zero c = search needs
@@ -26,11 +31,16 @@ slice-aggregate-all-zero c = search needs
 all-zero-requires : tie.Need-all-zero-requires
 all-zero-requires c κs = search needs
 
-returns-4 : tie.Need-returns-4
+returns-5 : tie.Need-returns-5
 unfolding asFresh
-returns-4 c = all-fresh (c .before .before .before .before .before .before .before .before .args .state) (c .all-zero .result) (c .before .before .before .before .before .before .if1 .left) (c .before .before .before .before .if2 .left) (c .before .before .before .if3 .left) (c .all-zero .ensures)
+returns-5 c =
+    let t₄ = c .before .before .before in
+    let t₃ = t₄ .before in
+    let t₂ = t₃ .before .before in
+    let t₁ = t₂ .before .before in
+    all-fresh (t₁ .before .before .args .state) (c .all-zero .result) (t₁ .if1 .left) (t₂ .if2 .left) (t₃ .if3 .left) (t₄ .if4 .left) (c .all-zero .ensures)
 
 pub as-fresh-spec : {M : Type 1} → statement M
 as-fresh-spec =
     tie.close
-    (tie.spec returns returns-2 returns-3 slice-aggregate-all-zero all-zero-requires returns-4)
+    (tie.spec returns returns-2 returns-3 returns-4 slice-aggregate-all-zero all-zero-requires returns-5)

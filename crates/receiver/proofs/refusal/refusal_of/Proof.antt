@@ -2,7 +2,7 @@
 -- Assumes nothing.
 use borrow.Author.Needs.{needs}
 use Prim.Native.Nat.{ℕ, _/_}
-use mathlib.Core.Path.{sym, ap, _∙_}
+use mathlib.Core.Path.{ap, _∙_}
 use mathlib.Core.Bool.{not}
 use native.Mathlib.Omega.{arith}
 use borrow.Author.Tests.{le-ltb, lt-ltb, eq-eqb, ne-eqb}
@@ -24,7 +24,7 @@ returns c =
     let s = c .before .before in
     let a = s .args in
     given 1 _ _ (line (c .before .known .ensures) (c .if1 .taken))
-    ∙ by-code (a .mode) (a .state) (a .lane) (a .octets) (a .statuses) (a .commands) (a .places) (a .patterns) (a .most) (a .numbers) (s .pre .0) (s .pre .1)
+    ∙ by-code (a .mode) (a .state) (a .lane) (a .octets) (a .statuses) (a .commands) (a .places) (a .patterns) (a .invalid) (a .most) (a .numbers) (s .pre .0) (s .pre .1)
 
 state-fits-requires : tie.Need-state-fits-requires
 state-fits-requires c κs = search needs
@@ -36,7 +36,7 @@ returns-2 c =
     let a = s .args in
     given 3 _ _ (line (c .before .state-fits .ensures) (c .if2 .taken))
     ∙ passed 1 _ _ (line (t₁ .before .known .ensures) (t₁ .if1 .left))
-    ∙ by-code (a .mode) (a .state) (a .lane) (a .octets) (a .statuses) (a .commands) (a .places) (a .patterns) (a .most) (a .numbers) (s .pre .0) (s .pre .1)
+    ∙ by-code (a .mode) (a .state) (a .lane) (a .octets) (a .statuses) (a .commands) (a .places) (a .patterns) (a .invalid) (a .most) (a .numbers) (s .pre .0) (s .pre .1)
 
 rem-if3 : tie.Need-rem-if3
 rem-if3 c = omega (arith, ap (λ (x : Numbers). x .octets) (c .before .before .before .before .pre .1), octets-some (row (c .before .before .before .before .args .mode) .gap))
@@ -50,7 +50,7 @@ returns-3 c =
     given 4 _ _ (ap not (ne-eqb _ _ (c .if3 .taken)))
     ∙ passed 3 _ _ (line (t₃ .before .state-fits .ensures) (t₃ .if2 .left))
     ∙ passed 1 _ _ (line (t₁ .before .known .ensures) (t₁ .if1 .left))
-    ∙ by-code (a .mode) (a .state) (a .lane) (a .octets) (a .statuses) (a .commands) (a .places) (a .patterns) (a .most) (a .numbers) (s .pre .0) (s .pre .1)
+    ∙ by-code (a .mode) (a .state) (a .lane) (a .octets) (a .statuses) (a .commands) (a .places) (a .patterns) (a .invalid) (a .most) (a .numbers) (s .pre .0) (s .pre .1)
 
 div-n : tie.Need-div-n
 div-n c = omega (arith, ap (λ (x : Numbers). x .octets) (c .before .before .before .before .before .pre .1), octets-some (row (c .before .before .before .before .before .args .mode) .gap))
@@ -66,7 +66,7 @@ returns-4 c =
     ∙ passed 4 _ _ (ap not (eq-eqb _ _ (t₄ .if3 .left)))
     ∙ passed 3 _ _ (line (t₃ .before .state-fits .ensures) (t₃ .if2 .left))
     ∙ passed 1 _ _ (line (t₁ .before .known .ensures) (t₁ .if1 .left))
-    ∙ by-code (a .mode) (a .state) (a .lane) (a .octets) (a .statuses) (a .commands) (a .places) (a .patterns) (a .most) (a .numbers) (s .pre .0) (s .pre .1)
+    ∙ by-code (a .mode) (a .state) (a .lane) (a .octets) (a .statuses) (a .commands) (a .places) (a .patterns) (a .invalid) (a .most) (a .numbers) (s .pre .0) (s .pre .1)
 
 releases-requires : tie.Need-releases-requires
 releases-requires c κs = search needs
@@ -84,12 +84,12 @@ returns-5 c =
     let t₁ = t₃ .before .before in
     let s = t₁ .before .before in
     let a = s .args in
-    given 7 _ _ (line (c .before .room-for .ensures ∙ ap (λ (k : ℕ). roomFor k (a .octets) (a .statuses) (a .commands) (a .places) (a .patterns)) (c .before .before .releases .ensures)) (c .if5 .taken))
+    given 7 _ _ (line (c .before .room-for .ensures ∙ ap (λ (k : ℕ). roomFor k (a .octets) (a .statuses) (a .commands) (a .places) (a .patterns) (a .invalid)) (c .before .before .releases .ensures)) (c .if5 .taken))
     ∙ passed 5 _ _ (le-ltb _ _ (t₅ .if4 .left))
     ∙ passed 4 _ _ (ap not (eq-eqb _ _ (t₄ .if3 .left)))
     ∙ passed 3 _ _ (line (t₃ .before .state-fits .ensures) (t₃ .if2 .left))
     ∙ passed 1 _ _ (line (t₁ .before .known .ensures) (t₁ .if1 .left))
-    ∙ by-code (a .mode) (a .state) (a .lane) (a .octets) (a .statuses) (a .commands) (a .places) (a .patterns) (a .most) (a .numbers) (s .pre .0) (s .pre .1)
+    ∙ by-code (a .mode) (a .state) (a .lane) (a .octets) (a .statuses) (a .commands) (a .places) (a .patterns) (a .invalid) (a .most) (a .numbers) (s .pre .0) (s .pre .1)
 
 returns-6 : tie.Need-returns-6
 returns-6 c =
@@ -100,12 +100,12 @@ returns-6 c =
     let s = t₁ .before .before in
     let a = s .args in
     none-left
-    ∙ passed 7 _ _ (line (c .before .room-for .ensures ∙ ap (λ (k : ℕ). roomFor k (a .octets) (a .statuses) (a .commands) (a .places) (a .patterns)) (c .before .before .releases .ensures)) (c .if5 .left))
+    ∙ passed 7 _ _ (line (c .before .room-for .ensures ∙ ap (λ (k : ℕ). roomFor k (a .octets) (a .statuses) (a .commands) (a .places) (a .patterns) (a .invalid)) (c .before .before .releases .ensures)) (c .if5 .left))
     ∙ passed 5 _ _ (le-ltb _ _ (t₅ .if4 .left))
     ∙ passed 4 _ _ (ap not (eq-eqb _ _ (t₄ .if3 .left)))
     ∙ passed 3 _ _ (line (t₃ .before .state-fits .ensures) (t₃ .if2 .left))
     ∙ passed 1 _ _ (line (t₁ .before .known .ensures) (t₁ .if1 .left))
-    ∙ by-code (a .mode) (a .state) (a .lane) (a .octets) (a .statuses) (a .commands) (a .places) (a .patterns) (a .most) (a .numbers) (s .pre .0) (s .pre .1)
+    ∙ by-code (a .mode) (a .state) (a .lane) (a .octets) (a .statuses) (a .commands) (a .places) (a .patterns) (a .invalid) (a .most) (a .numbers) (s .pre .0) (s .pre .1)
 
 pub refusal-of-spec : {M : Type 1} → statement M
 refusal-of-spec =

@@ -1,6 +1,5 @@
 -- `receiver::refusal::room_for` meets its contract.
 -- Assumes nothing.
-use borrow.Author.Needs.{needs}
 use Prim.Native.Nat.{_-_}
 use native.Mathlib.Omega.{arith}
 use borrow.Author.Tests.{le-leb, lt-leb}
@@ -34,8 +33,12 @@ returns-5 c = simp (le-leb _ _ (c .before .before .before .before .if1 .left), l
 
 returns-6 : tie.Need-returns-6
 unfolding roomFor
-returns-6 c = simp (le-leb _ _ (c .before .before .before .before .if1 .left), le-leb _ _ (c .before .before .before .if2 .left), le-leb _ _ (c .before .before .if3 .left), le-leb _ _ (c .before .if4 .left), le-leb _ _ (c .if5 .left))
+returns-6 c = simp (le-leb _ _ (c .before .before .before .before .before .if1 .left), le-leb _ _ (c .before .before .before .before .if2 .left), le-leb _ _ (c .before .before .before .if3 .left), le-leb _ _ (c .before .before .if4 .left), le-leb _ _ (c .before .if5 .left), lt-leb _ _ (c .if6 .taken))
+
+returns-7 : tie.Need-returns-7
+unfolding roomFor
+returns-7 c = simp (le-leb _ _ (c .before .before .before .before .before .if1 .left), le-leb _ _ (c .before .before .before .before .if2 .left), le-leb _ _ (c .before .before .before .if3 .left), le-leb _ _ (c .before .before .if4 .left), le-leb _ _ (c .before .if5 .left), le-leb _ _ (c .if6 .left))
 
 pub room-for-spec : {M : Type 1} → statement M
 room-for-spec =
-    tie.close (tie.spec mul-if1 returns returns-2 returns-3 returns-4 returns-5 returns-6)
+    tie.close (tie.spec mul-if1 returns returns-2 returns-3 returns-4 returns-5 returns-6 returns-7)

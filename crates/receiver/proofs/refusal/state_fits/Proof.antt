@@ -2,7 +2,7 @@
 -- Assumes nothing.
 use borrow.Author.Needs.{needs}
 use mathlib.Core.Path.{_∙_}
-use Rattle.receiver.proofs.Refusals.{late-history, wide-command, waiting-fits, idle-fits}
+use Rattle.receiver.proofs.Refusals.{late-history, wide-command, many-invalid, waiting-fits, idle-fits}
 use Rattle.receiver.proofs.refusal.state_fits.Statement.{statement}
 use Rattle.receiver.proofs.refusal.state_fits.Tie as tie
 
@@ -14,17 +14,31 @@ returns-2 c = let a = c .before .before .before .before .args in wide-command (a
 
 returns-3 : tie.Need-returns-3
 returns-3 c =
-    let a = c .before .before .before .before .before .args in
-    waiting-fits (a .flagged) (a .state) (c .before .before .before .if1 .left) (c .before .if2 .left) (c .if3 .taken)
+    let t₂ = c .before .before in
+    let t₁ = t₂ .before .before in
+    let a = t₁ .before .before .args in
+    many-invalid (a .flagged) (a .state) (t₁ .if1 .left) (t₂ .if2 .left) (c .if3 .taken)
+
+returns-4 : tie.Need-returns-4
+returns-4 c =
+    let t₃ = c .before in
+    let t₂ = t₃ .before .before in
+    let t₁ = t₂ .before .before in
+    let a = t₁ .before .before .args in
+    waiting-fits (a .flagged) (a .state) (t₁ .if1 .left) (t₂ .if2 .left) (t₃ .if3 .left) (c .if4 .taken)
 
 as-fresh-requires : tie.Need-as-fresh-requires
 as-fresh-requires c κs = search needs
 
-returns-4 : tie.Need-returns-4
-returns-4 c =
-    let a = c .before .before .before .before .before .before .args in
+returns-5 : tie.Need-returns-5
+returns-5 c =
+    let t₄ = c .before in
+    let t₃ = t₄ .before in
+    let t₂ = t₃ .before .before in
+    let t₁ = t₂ .before .before in
+    let a = t₁ .before .before .args in
     c .as-fresh .ensures
-    ∙ idle-fits (a .flagged) (a .state) (c .before .before .before .before .if1 .left) (c .before .before .if2 .left) (c .before .if3 .left)
+    ∙ idle-fits (a .flagged) (a .state) (t₁ .if1 .left) (t₂ .if2 .left) (t₃ .if3 .left) (t₄ .if4 .left)
 
 pub state-fits-spec : {M : Type 1} → statement M
-state-fits-spec = tie.close (tie.spec returns returns-2 returns-3 as-fresh-requires returns-4)
+state-fits-spec = tie.close (tie.spec returns returns-2 returns-3 returns-4 as-fresh-requires returns-5)

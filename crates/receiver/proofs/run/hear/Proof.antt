@@ -20,19 +20,40 @@ part-read-end c = let s = c .before in omega (arith, s .pre .1, plain-octets (s 
 read-requires : tie.Need-read-requires
 read-requires c κs = search needs
 
+carried-requires : tie.Need-carried-requires
+carried-requires c κs = search needs
+
 parity-requires : tie.Need-parity-requires
 parity-requires c κs = search needs
 
 command-requires : tie.Need-command-requires
 command-requires c κs = search needs
 
+invalid-count-requires : tie.Need-invalid-count-requires
+invalid-count-requires c κs = search needs
+
 returns : tie.Need-returns
 returns c =
-    let s = c .before .before .before .before .before .before in
+    let command = c .before in
+    let parity = command .before in
+    let bits = parity .before in
+    let r = bits .before .before .read in
+    let s = bits .before .before .before .before .before in
     let a = s .args in
-    let r = c .before .before .before .read in
-    heard-is (a .row) (now (a .lane)) (r .result .bits) (r .result .invalid) (c .before .parity .result) (c .command .result) (r .result .octets)
-    (s .pre .0) (r .ensures .1 .0) (r .ensures .1 .1) (r .ensures .0) (c .before .parity .ensures) (c .command .ensures)
+    heard-is (a .row) (now (a .lane)) (r .result .first) (r .result .second) (bits .carried .result) (parity .parity .result) (command .command .result)
+    (c .invalid-count .result) (r .result .octets) (s .pre .0) (r .ensures .1 .0) (r .ensures .1 .1) (r .ensures .0) (bits .carried .ensures)
+    (parity .parity .ensures) (command .command .ensures) (c .invalid-count .ensures)
 
 pub hear-spec : {M : Type 1} → statement M
-hear-spec = tie.close (tie.spec sub-read part-read-start part-read-end read-requires parity-requires command-requires returns)
+hear-spec =
+    tie.close
+    (tie.spec
+    sub-read
+    part-read-start
+    part-read-end
+    read-requires
+    carried-requires
+    parity-requires
+    command-requires
+    invalid-count-requires
+    returns)

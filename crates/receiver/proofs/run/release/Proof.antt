@@ -9,7 +9,7 @@ use Rattle.receiver.proofs.run.release.Statement.{statement}
 use Rattle.receiver.proofs.run.release.Tie as tie
 
 hear-requires : tie.Need-hear-requires
-hear-requires c κs = let pre = c .before .before .before .before .before .before .pre in (pre .0 .0, pre .0 .1)
+hear-requires c κs = let pre = c .before .before .before .before .before .before .before .pre in (pre .0 .0, pre .0 .1)
 
 release-requires : tie.Need-release-requires
 release-requires c κs = search needs
@@ -18,22 +18,25 @@ slice-write-statuses : tie.Need-slice-write-statuses
 slice-write-statuses c = search needs
 
 mul-commands : tie.Need-mul-commands
-mul-commands c = omega (arith, most-is, c .before .before .before .before .before .before .before .before .before .before .before .before .before .pre .1 .0)
+mul-commands c = omega (arith, most-is, c .before .before .before .before .before .before .before .before .before .before .before .before .before .before .pre .1 .0)
 
 slice-write-commands : tie.Need-slice-write-commands
 slice-write-commands c = search needs
 
 mul-places : tie.Need-mul-places
-mul-places c = omega (arith, most-is, c .before .before .before .before .before .before .before .before .before .before .before .before .before .pre .1 .0)
+mul-places c = omega (arith, most-is, c .before .before .before .before .before .before .before .before .before .before .before .before .before .before .pre .1 .0)
 
 slice-write-places : tie.Need-slice-write-places
 slice-write-places c = search needs
 
 mul-patterns : tie.Need-mul-patterns
-mul-patterns c = omega (arith, most-is, c .before .before .before .before .before .before .before .before .before .before .before .before .before .pre .1 .0)
+mul-patterns c = omega (arith, most-is, c .before .before .before .before .before .before .before .before .before .before .before .before .before .before .pre .1 .0)
 
 slice-write-patterns : tie.Need-slice-write-patterns
 slice-write-patterns c = search needs
+
+slice-write-invalid : tie.Need-slice-write-invalid
+slice-write-invalid c = search needs
 
 same-length : tie.Need-same-length
 same-length c = search needs
@@ -50,15 +53,20 @@ same-length-4 c = search needs
 same-length-5 : tie.Need-same-length-5
 same-length-5 c = search needs
 
+same-length-6 : tie.Need-same-length-6
+same-length-6 c = search needs
+
 returns : tie.Need-returns
 returns c =
-    let a = c .before .before .before .before .before .before .before .before .before .before .before .before .before .before .args in
-    let pre = c .before .before .before .before .before .before .before .before .before .before .before .before .before .before .pre in
-    let h = c .before .before .before .before .before .before .before .hear in
-    let r = c .before .before .before .before .release in
+    let written = c .before .before .before .before in
+    let h = written .before .before .before in
+    let s = h .before .before .before .before .before .before .before .before in
+    let a = s .args in
+    let pre = s .pre in
+    let r = written .release in
     let e = r .ensures in
-    turned (a .row) (a .state) (now (a .lane)) (a .k) (now (a .octets)) (now (a .statuses)) (now (a .commands)) (now (a .places)) (now (a .patterns)) _ (h .result) (r .result)
-    (pre .0 .2) (pre .0 .3) (h .ensures) (e .0) (e .1 .0) (e .1 .1 .0) (e .1 .1 .1 .0) (e .1 .1 .1 .1)
+    turned (a .row) (a .state) (now (a .lane)) (a .k) (now (a .octets)) (now (a .statuses)) (now (a .commands)) (now (a .places)) (now (a .patterns)) (now (a .invalid)) _ (h .hear .result) (r .result)
+    (pre .0 .2) (pre .0 .3) (h .hear .ensures) (e .0) (e .1 .0) (e .1 .1 .0) (e .1 .1 .1 .0) (e .1 .1 .1 .1)
 
 pub release-spec : {M : Type 1} → statement M
 release-spec =
@@ -73,9 +81,11 @@ release-spec =
     slice-write-places
     mul-patterns
     slice-write-patterns
+    slice-write-invalid
     same-length
     same-length-2
     same-length-3
     same-length-4
     same-length-5
+    same-length-6
     returns)
