@@ -119,6 +119,24 @@ laid-set new old x h =
     ∙ laidAt-join new (x ∷ []) 0 old (omega arith)
     ∙ laid-start (new ++ x ∷ []) old (omega (arith, length-append new (x ∷ [])))
 
+-- what is laid over a list from its place on, as long or longer, is all that is left of it
+laidAt-over : (a b : List ℕ) (at : ℕ) (old : List ℕ) → length a ≤ length b → at + length b ≤ length old → laidAt b at (laidAt a at old) ≡ laidAt b at old
+laidAt-over a b at old h room =
+    let front = take at old in
+    let rest = drop (at + length a) old in
+    let lf : length front ≡ at = length-take-le at old (omega arith) in
+    let la : length (front ++ a) ≡ at + length a = length-append front a ∙ ap (λ (x : ℕ). x + length a) lf in
+    let ll : length (front ++ a ++ rest) ≡ length old = length-append (front ++ a) rest ∙ omega (arith, la, length-drop (at + length a) old) in
+    let past : drop (at + length b) (front ++ a ++ rest) ≡ drop (at + length b) old =
+    ap (λ (x : ℕ). drop x (front ++ a ++ rest)) {x = at + length b} {y = length (front ++ a) + (length b - length a)} (omega (arith, la))
+    ∙ drop-append-add (front ++ a) rest (length b - length a)
+    ∙ drop-drop (length b - length a) (at + length a) old
+    ∙ ap (λ (x : ℕ). drop x old) {x = at + length a + (length b - length a)} {y = at + length b} (omega arith) in
+    ap (laidAt b at) (fits a at old (omega arith))
+    ∙ fits b at (front ++ a ++ rest) (omega (arith, ll))
+    ∙ ap₂ (λ (x y : List ℕ). x ++ b ++ y) (ap (take at) (append-assoc front a rest) ∙ take-at front (a ++ rest) at lf) past
+    ∙ sym (fits b at old room)
+
 module _ (f : ℕ → ℕ) where
   -- n octets of a stream, from octet k on
   abbrev octetsFrom : ℕ → ℕ → List ℕ
@@ -143,6 +161,20 @@ module _ (f : ℕ → ℕ) where
         list-ext (λ j. number (digit 64 word) (8 * j) 8) (λ j. number f (8 * j) 8) 0 place 8
         (λ j q. number-ext (digit 64 word) f (8 * (0 + j)) (8 * (place + j)) 8
         (λ k l. ap (λ (x : ℕ). digit 64 x (8 * (0 + j) + k)) e ∙ digit-number f d (8 * place) 64 (8 * (0 + j) + k) (omega arith) ∙ ap f {x = 8 * place + (8 * (0 + j) + k)} {y = 8 * (place + j) + k} (omega arith)))
+
+    -- a word of its bits, of which those before octet n are laid
+    pub laid-over : (place n word : ℕ) (old : List ℕ) → place ≤ n → n ≤ place + 8 → place + 8 ≤ length old → word ≡ number f (8 * place) 64
+        → laidAt (octetsOf (digit 64 word) 8) place (laid (octetsOf f n) old) ≡ laid (octetsOf f (place + 8)) old
+    laid-over place n word old low high room e =
+        let new = octetsOf (digit 64 word) 8 in
+        let own = octetsFrom place (n - place) in
+        let ln = length-octetsOf (digit 64 word) 8 in
+        let lo = length-list (λ j. number f (8 * j) 8) place (n - place) in
+        let base = laid (octetsOf f place) old in
+        let lb = length-laid-octets f place old (omega arith) in
+        ap (laidAt new place) (ap (λ (x : ℕ). laid (octetsOf f x) old) {x = n} {y = place + (n - place)} (omega arith) ∙ sym (laid-more place (n - place) own old (omega arith) refl))
+        ∙ laidAt-over own new place base (omega (arith, ln, lo)) (omega (arith, ln, lb))
+        ∙ laid-more place 8 new old room (word-from place word e)
 
     -- its next word
     pub laid-word : (i word : ℕ) (old : List ℕ) → 8 * i + 8 ≤ length old → word ≡ number f (64 * i) 64

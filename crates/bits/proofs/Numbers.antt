@@ -1,6 +1,6 @@
 -- Laws of the number that a run of bits writes. Assumes nothing.
 use mathlib.Core.Path.{_≡_, refl, sym, ap, ap₂, _∙_, subst}
-use mathlib.Core.List.{List}
+use mathlib.Core.List.{List, []}
 use Prim.Native.Nat.{ℕ, zero, suc, _+_, _-_, _*_, _/_, _%_, _^_, _≤_, _<_}
 use native.Mathlib.Nat.{add-zero, add-suc, add-assoc, mul-one, pow-suc, pow-zero, mul-assoc, add-mul, mod-lt, mod-eq-of-lt, mod-one, div-one, zero-div, zero-lt-suc}
 use native.Mathlib.Numerals.{add-one, one-add}
@@ -77,6 +77,12 @@ module _ (f : ℕ → ℕ) where
         ∙ ap (λ (x : ℕ). x / 2 ^ (n - 1 - j) % 2) (number-split k (suc j) (n - 1 - j))
         ∙ ap (λ (x : ℕ). x % 2) (high (number f k (suc j)) (n - 1 - j) (number-lt (k + suc j) (n - 1 - j)))
         ∙ low (number f k j) 1 (d (k + j))
+
+-- all zeros
+pub number-zeros : (f : ℕ → ℕ) → ((j : ℕ) → f j ≡ 0) → (k n : ℕ) → number f k n ≡ 0
+unfolding number
+number-zeros f e k zero = refl
+number-zeros f e k (suc n) = omega (arith, number-zeros f e k n, e (k + n))
 
 -- all ones
 pub number-ones : (k n : ℕ) → number (λ j. 1) k n ≡ 2 ^ n - 1
@@ -161,7 +167,11 @@ number-next octets i n h =
     ∙ number-split (bitAt octets) (8 * i) (8 * n) 8
     ∙ ap (λ (x : ℕ). number (bitAt octets) (8 * i) (8 * n) * 256 + x) (ap (λ (x : ℕ). number (bitAt octets) x 8) (omega arith) ∙ number-octet octets (i + n) h)
 
--- past the end every bit is 0
+-- past the end every bit is 0, and so is every bit of no octets
+pub bit-none : (k : ℕ) → bitAt [] k ≡ 0
+unfolding bitAt
+bit-none k = ap (λ (x : ℕ). x % 2) (zero-div (2 ^ (7 - k % 8)))
+
 pub past-end : (octets : List ℕ) (at n : ℕ) → length octets ≤ at → number (bitAt octets) (8 * at) n ≡ 0
 unfolding number bitAt
 past-end octets at zero h = refl

@@ -1,13 +1,13 @@
 -- Octets made of a stream's bits have those bits, and octets made of their own bits are themselves. Assumes nothing.
-use mathlib.Core.Path.{_≡_, sym, ap, ap₂, _∙_}
-use mathlib.Core.List.{List, _++_}
-use Prim.Native.Nat.{ℕ, _+_, _-_, _*_, _/_, _%_, _^_, _≤_, _<_}
+use mathlib.Core.Path.{_≡_, refl, sym, ap, ap₂, _∙_}
+use mathlib.Core.List.{List, _∷_, _++_}
+use Prim.Native.Nat.{ℕ, zero, suc, _+_, _-_, _*_, _/_, _%_, _^_, _≤_, _<_}
 use native.Mathlib.Nat.{zero-add}
 use native.Mathlib.Omega.{arith}
-use lib.ListN.{length, getD, take, drop, List·getD-append}
+use lib.ListN.{length, getD, take, drop, replicate, List·getD-append}
 use lib.Seq.{getD-take, getD-drop, length-take-le, ext-getD}
-use Rattle.bits.specs.Order.{bitAt, number, digit, octetsOf}
-use Rattle.bits.proofs.Numbers.{digit-number, number-ext, number-octet, bit-octet}
+use Rattle.bits.specs.Order.{bitAt, listFrom, number, digit, octetsOf}
+use Rattle.bits.proofs.Numbers.{digit-number, number-ext, number-zeros, number-octet, bit-octet}
 use Rattle.bits.proofs.Lists.{list-ext, length-list, getD-list}
 
 -- ---- octets of a stream
@@ -60,3 +60,14 @@ bit-take n s k h = ap (λ (x : ℕ). x / 2 ^ (7 - k % 8) % 2) (getD-take n s (k 
 pub bit-append : (s t : List ℕ) (k : ℕ) → k < 8 * length s → bitAt (s ++ t) k ≡ bitAt s k
 unfolding bitAt
 bit-append s t k h = ap (λ (x : ℕ). x / 2 ^ (7 - k % 8) % 2) (List·getD-append s t 0 (k / 8) (omega arith))
+
+-- octets of bits that are all 0
+module _ (f : ℕ → ℕ) (none : (j : ℕ) → f j ≡ 0) where
+  zeros-from : (k n : ℕ) → listFrom (λ j. number f (8 * j) 8) k n ≡ replicate n 0
+  unfolding listFrom
+  zeros-from k zero = refl
+  zeros-from k (suc n) = ap₂ _∷_ (number-zeros f none (8 * k) 8) (zeros-from (suc k) n)
+
+  pub octets-zeros : (n : ℕ) → octetsOf f n ≡ replicate n 0
+  unfolding octetsOf
+  octets-zeros = zeros-from 0

@@ -2,14 +2,22 @@
 use mathlib.Core.Path.{_≡_, sym, ap, ap₂, _∙_}
 use mathlib.Core.List.{List}
 use Prim.Native.Nat.{ℕ, _+_, _-_, _*_, _%_, _^_, _≤_, _<_}
-use native.Mathlib.Nat.{add-zero, mul-assoc, add-mul}
+use native.Mathlib.Nat.{add-zero, mul-assoc, add-mul, mul-mod-left}
 use native.Mathlib.Omega.{arith}
 use lib.ListN.{length, getD}
-use lib.Pow.{pow-add, shl-exact, shl-lt}
+use lib.Pow.{pow-add, mod-pow-add, shl-exact, shl-lt, shl-shr}
 use lib.Dec.{lit≤}
 use lib.Bits.{bitOr, or-shifted}
 use Rattle.bits.specs.Order.{bitAt, number}
 use Rattle.bits.proofs.Numbers.{bitAt-lt, number-split, number-lt, number-octet, number-next, past-end}
+
+-- a shift left drops what leaves the word
+pub shift-left : (x t : ℕ) → t ≤ 64 → x * 2 ^ t % 2 ^ 64 ≡ x % 2 ^ (64 - t) * 2 ^ t
+shift-left x t h =
+    ap (λ (z : ℕ). x * 2 ^ t % 2 ^ z) {x = 64} {y = 64 - t + t} (omega arith)
+    ∙ mod-pow-add (x * 2 ^ t) (64 - t) t
+    ∙ ap₂ (λ (y z : ℕ). y % 2 ^ (64 - t) * 2 ^ t + z) (shl-shr x t) (mul-mod-left x (2 ^ t))
+    ∙ add-zero _
 
 -- word | octet << s, laid below the m octets that are there
 module _ (octets : List ℕ) (octet-lt : (i : ℕ) → getD octets i 0 < 256) (at : ℕ) where
