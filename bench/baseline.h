@@ -26,27 +26,29 @@ enum { CRC12_LOWER = 0x30f, FEC_LOWER = 0x220211, MOST = MOST_MULTIBLOCKS };
 
 static inline u8 send_refusal(u8 mode, u32 e, struct zaytulobe_sender state, size user_length, const u32 *commands,
     size commands_length, size lane_length) {
-    if (mode > FEC)
+    if (mode >= MODES)
         return ZAYTULOBE_REFUSED_MODE;
     if (e < ZAYTULOBE_LEAST_E || e > ZAYTULOBE_MOST_E)
         return ZAYTULOBE_REFUSED_E;
-    if (state.history >> 58 || state.parity >> (mode == FEC ? 26 : 12) || state.number >= e)
+    if (state.history >> 58 || state.parity >> (has_fec(mode) ? 26 : 12) || state.number >= e)
+        return ZAYTULOBE_REFUSED_STATE;
+    if (state.fill > ZAYTULOBE_MOST_FILL(mode))
         return ZAYTULOBE_REFUSED_STATE;
     if (user_length % USER_OCTETS)
         return ZAYTULOBE_REFUSED_LENGTH;
     size count = user_length / USER_OCTETS;
-    if (count > MOST)
+    if (count > most_multiblocks(mode))
         return ZAYTULOBE_REFUSED_COUNT;
     if (commands_length != count)
         return ZAYTULOBE_REFUSED_COMMANDS;
     for (size k = 0; k < count; k++)
         if (commands[k] > ZAYTULOBE_MOST_COMMAND(mode))
             return ZAYTULOBE_REFUSED_COMMANDS;
-    return LANE_OCTETS * count > lane_length ? ZAYTULOBE_REFUSED_ROOM : ZAYTULOBE_ACCEPTED;
+    return lane_octets(mode) * count > lane_length ? ZAYTULOBE_REFUSED_ROOM : ZAYTULOBE_ACCEPTED;
 }
 
 static inline int state_fits(u8 mode, const struct zaytulobe_receiver *state) {
-    u32 command = mode == FEC ? 0 : 2 * ZAYTULOBE_COMMAND_FLAG - 1;
+    u32 command = has_fec(mode) ? 0 : 2 * ZAYTULOBE_COMMAND_FLAG - 1;
     if (state->waiting > 1 || state->trusted > 1 || state->history >> 58 || state->command > command || state->invalid > BLOCKS)
         return 0;
     if (state->waiting)
@@ -59,14 +61,14 @@ static inline int state_fits(u8 mode, const struct zaytulobe_receiver *state) {
 
 static inline u8 receive_refusal(u8 mode, const struct zaytulobe_receiver *state, size lane_length, size octets_length,
     size statuses_length, size commands_length, size places_length, size patterns_length, size invalid_length) {
-    if (mode > FEC)
+    if (mode >= MODES)
         return ZAYTULOBE_REFUSED_MODE;
     if (!state_fits(mode, state))
         return ZAYTULOBE_REFUSED_STATE;
-    if (lane_length % LANE_OCTETS)
+    if (lane_length % lane_octets(mode))
         return ZAYTULOBE_REFUSED_LENGTH;
-    size count = lane_length / LANE_OCTETS;
-    if (count > MOST)
+    size count = lane_length / lane_octets(mode);
+    if (count > most_multiblocks(mode))
         return ZAYTULOBE_REFUSED_COUNT;
     size released = state->waiting || !count ? count : count - 1;
     int room = USER_OCTETS * released <= octets_length && released <= statuses_length && released <= commands_length &&
@@ -79,14 +81,24 @@ static inline size number_at(const u8 *octets) {
 }
 
 static inline u8 capture_refusal(const u8 *capture, size length) {
-    if (length < HEAD || length > ZAYTULOBE_LONGEST_CAPTURE || number_at(capture) != 3 || number_at(capture + 7) != length - HEAD)
+    if (length < HEAD || number_at(capture) != 3 || number_at(capture + 7) != length - HEAD)
+        return ZAYTULOBE_REFUSED_CAPTURE;
+    if (length > (size)ZAYTULOBE_LONGEST_CAPTURE(capture[4]))
         return ZAYTULOBE_REFUSED_CAPTURE;
     u32 e = (u32)capture[5] << 8 | capture[6];
-    if (capture[4] > FEC)
+    if (capture[4] >= MODES)
         return ZAYTULOBE_REFUSED_MODE;
     if (e < ZAYTULOBE_LEAST_E || e > ZAYTULOBE_MOST_E)
         return ZAYTULOBE_REFUSED_E;
-    return (length - HEAD) % LANE_OCTETS ? ZAYTULOBE_REFUSED_LENGTH : ZAYTULOBE_ACCEPTED;
+    return (length - HEAD) % lane_octets(capture[4]) ? ZAYTULOBE_REFUSED_LENGTH : ZAYTULOBE_ACCEPTED;
+}
+
+static inline u8 *put_name(u8 *at, u8 mode) {
+    static const char *const names[MODES] = {"crc12", "fec", "crc12-80", "fec-80"};
+    for (const char *from = names[mode]; *from; from++)
+        *at++ = (u8)*from;
+    *at++ = ' ';
+    return at;
 }
 
 /* A decimal number and the octet after it; answers the place after both. */
@@ -113,10 +125,9 @@ static inline struct zaytulobe_listed list(RECEIVE((*receive)), const u8 *captur
     struct zaytulobe_receiver fresh = {0};
     size count = receive(capture[4], fresh, capture + HEAD, capture_length - HEAD, octets, sizeof octets, statuses, MOST,
         commands, MOST, places, MOST, patterns, MOST, invalid, MOST).count;
-    size name = capture[4] == FEC ? 4 : 6;
-    memcpy(made, capture[4] == FEC ? "fec " : "crc12 ", name);
-    u8 *at = put_number(made + name, (u32)capture[5] << 8 | capture[6], ' ');
-    at = put_number(at, (u32)((capture_length - HEAD) / LANE_OCTETS), ' ');
+    u8 *at = put_name(made, capture[4]);
+    at = put_number(at, (u32)capture[5] << 8 | capture[6], ' ');
+    at = put_number(at, (u32)((capture_length - HEAD) / lane_octets(capture[4])), ' ');
     at = put_number(at, (u32)count, '\n');
     for (size k = 0; k < count; k++) {
         at = put_number(at, (u32)k, ' ');

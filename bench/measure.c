@@ -28,7 +28,7 @@ static const struct library {
 
 enum work { SENDING, RECEIVING, LISTING };
 enum damage { CLEAN, REPAIRED, LAST, FAILED };
-enum { CASES = 10, LIBRARY_COUNT = 3, E = 4 };
+enum { CASES = 18, LIBRARY_COUNT = 3, E = 4, WIDE = ZAYTULOBE_MOST_MULTIBLOCKS(FEC_80) };
 
 /* A plain search takes so long that the cases with one in every multiblock have fewer. */
 static const struct made {
@@ -48,6 +48,14 @@ static const struct made {
     {"failed-fec", RECEIVING, FEC, FAILED, 48},
     {"listing-crc12", LISTING, CRC12, CLEAN, MOST},
     {"listing-fec", LISTING, FEC, CLEAN, MOST},
+    {"send-crc12-80", SENDING, CRC12_80, CLEAN, WIDE},
+    {"send-fec-80", SENDING, FEC_80, CLEAN, WIDE},
+    {"clean-crc12-80", RECEIVING, CRC12_80, CLEAN, WIDE},
+    {"clean-fec-80", RECEIVING, FEC_80, CLEAN, WIDE},
+    {"repaired-fec-80", RECEIVING, FEC_80, REPAIRED, 48},
+    {"failed-fec-80", RECEIVING, FEC_80, FAILED, 48},
+    {"listing-crc12-80", LISTING, CRC12_80, CLEAN, WIDE},
+    {"listing-fec-80", LISTING, FEC_80, CLEAN, WIDE},
 };
 
 static u64 stands_at;
@@ -58,85 +66,85 @@ static u32 draw(u32 below) {
 }
 
 /* The input: what is sent, and a lane of one multiblock more than a call takes, so that each call releases as many as it takes. */
-static u8 user[USER_OCTETS * (MOST + 1)], lane[LANE_OCTETS * (MOST + 1)], capture[ZAYTULOBE_LONGEST_CAPTURE];
+static u8 user[USER_OCTETS * (MOST + 1)], lane[MOST_LANE_OCTETS * (MOST + 1)], capture[ZAYTULOBE_LONGEST_OF_ALL];
 static u32 commands[MOST + 1];
 static struct zaytulobe_receiver before;
 
 /* Everything that a call answers. */
 static struct results {
     u64 numbers[8];
-    u8 lane[LANE_OCTETS * MOST], octets[USER_OCTETS * MOST], statuses[MOST], waiting[USER_OCTETS], text[ZAYTULOBE_LONGEST_TEXT];
+    u8 lane[MOST_LANE_OCTETS * MOST], octets[USER_OCTETS * MOST], statuses[MOST], waiting[USER_OCTETS], text[ZAYTULOBE_LONGEST_TEXT];
     u32 commands[MOST];
     u16 places[MOST], patterns[MOST];
     u8 invalid[MOST];
 } results[LIBRARY_COUNT];
 
-static void flip_data(size multiblock, size position) {
-    size bit = MULTIBLOCK_BITS * multiblock + BLOCK_BITS * (position / 64) + 2 + position % 64;
+static void flip_data(u8 mode, size multiblock, size position) {
+    size bit = multiblock_bits(mode) * multiblock + data_place(mode, position);
     lane[bit / 8] ^= (u8)(128 >> bit % 8);
 }
 
 /* A position of the FEC codeword: those from 2048 on are carried by headers of the next multiblock, around its end mark. */
-static void flip_position(size multiblock, size position) {
+static void flip_position(u8 mode, size multiblock, size position) {
     if (position < DATA_BITS) {
-        flip_data(multiblock, position);
+        flip_data(mode, multiblock, position);
         return;
     }
     size rank = position - DATA_BITS, block = rank < 22 ? rank : rank + 1;
-    size bit = MULTIBLOCK_BITS * (multiblock + 1) + BLOCK_BITS * block;
+    size bit = multiblock_bits(mode) * (multiblock + 1) + block_bits(mode) * block;
     lane[bit / 8] ^= (u8)(192 >> bit % 8);
 }
 
 /* A burst of nine bits anywhere in the codeword, or the one that a search from place 0 and pattern 1 on finds last; or three bits
    six apart, which no burst of nine explains: modulo x^17 + 1, which divides the FEC polynomial, they lie in no nine of the
    seventeen places. */
-static void hit(size multiblock, enum damage damage) {
+static void hit(u8 mode, size multiblock, enum damage damage) {
     if (damage == REPAIRED || damage == LAST) {
         size place = damage == LAST ? 2065 : draw(2066);
         u32 pattern = damage == LAST ? 511 : 257 | draw(256);
         for (size k = 0; k < 9; k++)
             if (pattern >> k & 1)
-                flip_position(multiblock, place + k);
+                flip_position(mode, multiblock, place + k);
     } else if (damage == FAILED) {
         size place = draw(2036);
         for (size k = 0; k < 3; k++)
-            flip_data(multiblock, place + 6 * k);
+            flip_data(mode, multiblock, place + 6 * k);
     }
 }
 
 static void prepare(const struct made *made) {
-    size n = made->multiblocks;
+    size n = made->multiblocks, one = lane_octets(made->mode), length = one * n;
     stands_at = 1;
     for (size k = 0; k < sizeof user; k++)
         user[k] = (u8)draw(256);
     for (size k = 0; k <= MOST; k++)
-        commands[k] = made->mode == FEC ? 0 : draw(ZAYTULOBE_MOST_COMMAND(CRC12) + 1);
-    struct zaytulobe_sender fresh = {0, 0, 0};
-    struct zaytulobe_sender state = zaytulobe_send(made->mode, E, fresh, user, USER_OCTETS, commands, 1, lane, LANE_OCTETS).state;
-    zaytulobe_send(made->mode, E, state, user + USER_OCTETS, USER_OCTETS * n, commands + 1, n, lane + LANE_OCTETS, LANE_OCTETS * n);
+        commands[k] = has_fec(made->mode) ? 0 : draw(ZAYTULOBE_MOST_COMMAND(CRC12) + 1);
+    struct zaytulobe_sender fresh = {0, 0, 0, 0};
+    struct zaytulobe_sender state = zaytulobe_send(made->mode, E, fresh, user, USER_OCTETS, commands, 1, lane, one).state;
+    zaytulobe_send(made->mode, E, state, user + USER_OCTETS, USER_OCTETS * n, commands + 1, n, lane + one, length);
     for (size k = 0; k < n; k++)
-        hit(k, made->damage);
+        hit(made->mode, k, made->damage);
     struct zaytulobe_receiver none = {0};
     struct results *to = &results[0];
-    before = zaytulobe_receive(made->mode, none, lane, LANE_OCTETS, to->octets, 0, to->statuses, 0, to->commands, 0, to->places, 0,
+    before = zaytulobe_receive(made->mode, none, lane, one, to->octets, 0, to->statuses, 0, to->commands, 0, to->places, 0,
         to->patterns, 0, to->invalid, 0).state;
-    size length = LANE_OCTETS * n;
     u8 head[HEAD] = {0, 0, 0, 3, made->mode, 0, E, 0, (u8)(length >> 16), (u8)(length >> 8), (u8)length};
     memcpy(capture, head, HEAD);
     memcpy(capture + HEAD, lane, length);
 }
 
 static void turn(const struct made *made, const struct library *library, struct results *to) {
-    size n = made->multiblocks;
+    size n = made->multiblocks, one = lane_octets(made->mode);
     if (made->work == SENDING) {
-        struct zaytulobe_sender fresh = {0, 0, 0};
+        struct zaytulobe_sender fresh = {0, 0, 0, 0};
         struct zaytulobe_sent sent = library->send(
             made->mode, E, fresh, user, USER_OCTETS * n, commands, n, to->lane, sizeof to->lane);
-        u64 numbers[5] = {sent.refusal, sent.count, sent.state.history, sent.state.parity, sent.state.number};
+        struct zaytulobe_sender *state = &sent.state;
+        u64 numbers[6] = {sent.refusal, sent.count, state->history, state->parity, state->number, state->fill};
         memcpy(to->numbers, numbers, sizeof numbers);
     } else if (made->work == RECEIVING) {
         struct zaytulobe_received received = library->receive(
-            made->mode, before, lane + LANE_OCTETS, LANE_OCTETS * n, to->octets, sizeof to->octets, to->statuses, MOST,
+            made->mode, before, lane + one, one * n, to->octets, sizeof to->octets, to->statuses, MOST,
             to->commands, MOST, to->places, MOST, to->patterns, MOST, to->invalid, MOST);
         struct zaytulobe_receiver *state = &received.state;
         u64 numbers[7] = {
@@ -144,7 +152,7 @@ static void turn(const struct made *made, const struct library *library, struct 
         memcpy(to->numbers, numbers, sizeof numbers);
         memcpy(to->waiting, state->octets, USER_OCTETS);
     } else {
-        struct zaytulobe_listed listed = library->listing(capture, HEAD + LANE_OCTETS * n, to->text, sizeof to->text);
+        struct zaytulobe_listed listed = library->listing(capture, HEAD + one * n, to->text, sizeof to->text);
         to->numbers[0] = listed.refusal;
         to->numbers[1] = listed.count;
     }

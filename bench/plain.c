@@ -26,14 +26,14 @@ static void put_bit(u8 *octets, size bit, u32 value) {
 }
 
 static u32 times_x(u8 mode, u32 remainder) {
-    u32 width = mode == FEC ? 26 : 12, lower = mode == FEC ? FEC_LOWER : CRC12_LOWER;
+    u32 width = has_fec(mode) ? 26 : 12, lower = has_fec(mode) ? FEC_LOWER : CRC12_LOWER;
     u32 top = remainder >> (width - 1) & 1;
     remainder = remainder << 1 & ((1u << width) - 1);
     return top ? remainder ^ lower : remainder;
 }
 
 static u32 next_remainder(u8 mode, u32 remainder, u32 bit) {
-    return times_x(mode, remainder ^ bit << (mode == FEC ? 25 : 11));
+    return times_x(mode, remainder ^ bit << (has_fec(mode) ? 25 : 11));
 }
 
 static u32 remainder_of(u8 mode, const u8 *octets) {
@@ -50,21 +50,46 @@ __attribute__((constructor)) static void make_weights(void) {
 }
 
 static u32 sync_bit(u8 mode, size position, u32 parity, u32 command, u32 mark) {
-    u8 field = LAYOUTS[mode][position];
+    u8 field = LAYOUTS[has_fec(mode)][position];
     if (field >= MARK)
         return field == MARK ? mark : field == ONE;
     return field >= COMMAND ? command >> (field - COMMAND) & 1 : parity >> field & 1;
+}
+
+/* Table 38: the pair that PRBS[1:0] replaces. */
+static const u8 REPLACED[4] = {1, 2, 4, 5};
+
+/* A bit of a pair of the block that the register stands at, the left one first: normally PRBS[4:3] of F0, PRBS[6:5] of F1 .. */
+static u32 fill_bit(u32 fill, size pair, size bit) {
+    u32 normally = fill >> (4 + 2 * pair - bit) & 1, instead = fill >> 2 & 1;
+    return REPLACED[fill & 3] == pair ? (bit ? instead : !instead) : normally;
+}
+
+/* The register after a block: 17 bits more, each 1 plus the bits 17 and 14 before it. */
+static u32 next_fill(u32 fill) {
+    for (int k = 0; k < 17; k++)
+        fill = (fill << 1 | (1 ^ (fill >> 16 & 1) ^ (fill >> 13 & 1))) & 0x1ffff;
+    return fill;
+}
+
+static void put_fill(u8 mode, u32 *fill, u8 *lane, size block) {
+    if (gap(mode) == 0)
+        return;
+    for (size k = 0; k < 7 * gap(mode); k++)
+        put_bit(lane, block_bits(mode) * block + fill_place(mode, k), fill_bit(*fill, k / gap(mode), k % gap(mode)));
+    *fill = next_fill(*fill);
 }
 
 static void send_one(u8 mode, u32 e, struct zaytulobe_sender *state, const u8 *user, u32 command, u8 *lane) {
     u32 parity = 0, last = state->number + 1 == e;
     for (size block = 0; block < BLOCKS; block++) {
         u32 carried = sync_bit(mode, block, state->parity, command, last);
-        put_bit(lane, BLOCK_BITS * block, !carried);
-        put_bit(lane, BLOCK_BITS * block + 1, carried);
-        for (size bit = 0; bit < 64; bit++) {
-            u32 sent = bit_at(user, 64 * block + bit) ^ (state->history >> 38 & 1) ^ (state->history >> 57 & 1);
-            put_bit(lane, BLOCK_BITS * block + 2 + bit, sent);
+        put_bit(lane, block_bits(mode) * block, !carried);
+        put_bit(lane, block_bits(mode) * block + 1, carried);
+        put_fill(mode, &state->fill, lane, block);
+        for (size bit = 64 * block; bit < 64 * block + 64; bit++) {
+            u32 sent = bit_at(user, bit) ^ (state->history >> 38 & 1) ^ (state->history >> 57 & 1);
+            put_bit(lane, data_place(mode, bit), sent);
             state->history = state->history << 1 | sent;
             parity = next_remainder(mode, parity, sent);
         }
@@ -80,7 +105,7 @@ SEND(plain_send) {
     if (sent.refusal)
         return sent;
     for (size k = 0; k < commands_length; k++)
-        send_one(mode, e, &sent.state, user + USER_OCTETS * k, commands[k], lane + LANE_OCTETS * k);
+        send_one(mode, e, &sent.state, user + USER_OCTETS * k, commands[k], lane + lane_octets(mode) * k);
     sent.count = commands_length;
     return sent;
 }
@@ -94,8 +119,9 @@ static void hear(u8 mode, const u8 *lane, struct heard *heard) {
     u32 flagged = 0;
     heard->parity = heard->command = heard->invalid = 0;
     for (size block = 0; block < BLOCKS; block++) {
-        u32 first = bit_at(lane, BLOCK_BITS * block), second = bit_at(lane, BLOCK_BITS * block + 1), carried = !first && second;
-        u8 field = LAYOUTS[mode][block];
+        size place = block_bits(mode) * block;
+        u32 first = bit_at(lane, place), second = bit_at(lane, place + 1), carried = !first && second;
+        u8 field = LAYOUTS[has_fec(mode)][block];
         heard->invalid += first == second;
         if (field < COMMAND) {
             heard->parity |= carried << field;
@@ -103,8 +129,8 @@ static void hear(u8 mode, const u8 *lane, struct heard *heard) {
             heard->command |= carried << (field - COMMAND);
             flagged |= first == second;
         }
-        for (size bit = 0; bit < 64; bit++)
-            put_bit(heard->octets, 64 * block + bit, bit_at(lane, BLOCK_BITS * block + 2 + bit));
+        for (size bit = 64 * block; bit < 64 * block + 64; bit++)
+            put_bit(heard->octets, bit, bit_at(lane, data_place(mode, bit)));
     }
     heard->command += flagged * ZAYTULOBE_COMMAND_FLAG;
 }
@@ -157,7 +183,7 @@ RECEIVE(plain_receive) {
         return received;
     struct zaytulobe_receiver *now = &received.state;
     size released = 0;
-    for (size at = 0; at < lane_length; at += LANE_OCTETS) {
+    for (size at = 0; at < lane_length; at += lane_octets(mode)) {
         struct heard heard;
         hear(mode, lane + at, &heard);
         if (now->waiting) {
@@ -165,7 +191,7 @@ RECEIVE(plain_receive) {
             u16 place = 0, pattern = 0;
             u8 status = ZAYTULOBE_AGREES;
             if (difference) {
-                status = mode == FEC && find_burst(difference, &place, &pattern) ? ZAYTULOBE_REPAIRED : ZAYTULOBE_FAILED;
+                status = has_fec(mode) && find_burst(difference, &place, &pattern) ? ZAYTULOBE_REPAIRED : ZAYTULOBE_FAILED;
                 flip(now->octets, place, pattern);
             }
             now->history = descramble(now->octets, now->history, octets + USER_OCTETS * released);

@@ -1,7 +1,16 @@
-/* The tuned baseline: 64 bits at once, parity by eight rows of 256 remainders, error trapping, packing by shifts. */
+/* The tuned baseline: 64 bits at once, parity by eight rows of 256 remainders, error trapping, packing by shifts; with fill bits,
+   a block is ten octets, and the register moves by 17 bits at once. */
 #include "baseline.h"
 
+/* What is made for each mode by itself: the mode is a constant in it. */
+#define FOR_EACH_MODE static inline __attribute__((always_inline))
+
 static u32 crc12_rows[8][256], fec_rows[8][256];
+
+/* Of a block with fill bits, 40 bits a half, each half four pairs with an octet after each. Table 38: the pairs F0 to F2 of the
+   upper half by PRBS[8:0]; of the lower half, which of F3 to F6 PRBS[2:0] leaves as they are, and what it puts in place of one. */
+static u32 upper_pairs[512];
+static u64 kept_lower[8], put_lower[8];
 
 static u32 times_x(u32 width, u32 lower, u32 remainder) {
     u32 top = remainder >> (width - 1) & 1;
@@ -22,9 +31,29 @@ static void make_rows(u32 (*rows)[256], u32 width, u32 lower) {
     }
 }
 
+/* Where a pair stands in its half: F2 and F6 before the last octet. */
+static u32 pair_place(u32 pair) {
+    return 8 + 10 * (pair < 3 ? 2 - pair : 6 - pair);
+}
+
+static void make_pairs(void) {
+    static const u8 replaced[4] = {1, 2, 4, 5};
+    for (u32 prbs = 0; prbs < 512; prbs++)
+        for (u32 pair = 0; pair < 3; pair++) {
+            u32 normally = prbs >> (3 + 2 * pair) & 3, instead = prbs & 4 ? 1 : 2;
+            upper_pairs[prbs] |= (replaced[prbs & 3] == pair ? instead : normally) << pair_place(pair);
+        }
+    for (u32 prbs = 0; prbs < 8; prbs++) {
+        u32 pair = replaced[prbs & 3];
+        kept_lower[prbs] = pair < 3 ? 0xc0300c0300 : 0xc0300c0300 & ~(3ul << pair_place(pair));
+        put_lower[prbs] = pair < 3 ? 0 : (prbs & 4 ? 1ul : 2ul) << pair_place(pair);
+    }
+}
+
 __attribute__((constructor)) static void make_tables(void) {
     make_rows(crc12_rows, 12, CRC12_LOWER);
     make_rows(fec_rows, 26, FEC_LOWER);
+    make_pairs();
 }
 
 static inline u64 load(const u8 *from) {
@@ -44,13 +73,13 @@ static inline u32 next_remainder(const u32 (*rows)[256], u32 width, u32 remainde
         rows[2][x >> 16 & 255] ^ rows[1][x >> 8 & 255] ^ rows[0][x & 255];
 }
 
-static inline u32 next_parity(u8 mode, u32 parity, u64 word) {
-    return mode == FEC ? next_remainder((const u32(*)[256])fec_rows, 26, parity, word)
-                       : next_remainder((const u32(*)[256])crc12_rows, 12, parity, word);
+FOR_EACH_MODE u32 next_parity(u8 mode, u32 parity, u64 word) {
+    return has_fec(mode) ? next_remainder((const u32(*)[256])fec_rows, 26, parity, word)
+                         : next_remainder((const u32(*)[256])crc12_rows, 12, parity, word);
 }
 
 static inline u32 sync_word(u8 mode, u32 parity, u32 command, u32 mark) {
-    if (mode == FEC)
+    if (has_fec(mode))
         return (parity >> 4) << 10 | mark << 9 | (parity & 15) << 5 | 1;
     u32 code = (parity & 0xe00) << 20 | (parity & 0x1c0) << 19 | (parity & 0x38) << 18 | (parity & 7) << 17;
     u32 own = (command & 0x70) << 9 | (command & 8) << 8 | (command & 7) << 5;
@@ -58,13 +87,13 @@ static inline u32 sync_word(u8 mode, u32 parity, u32 command, u32 mark) {
 }
 
 static inline u32 parity_in(u8 mode, u32 word) {
-    if (mode == FEC)
+    if (has_fec(mode))
         return (word >> 10) << 4 | (word >> 5 & 15);
     return (word >> 20 & 0xe00) | (word >> 19 & 0x1c0) | (word >> 18 & 0x38) | (word >> 17 & 7);
 }
 
 static inline u32 command_in(u8 mode, u32 word) {
-    return mode == FEC ? 0 : (word >> 9 & 0x70) | (word >> 8 & 8) | (word >> 5 & 7);
+    return has_fec(mode) ? 0 : (word >> 9 & 0x70) | (word >> 8 & 8) | (word >> 5 & 7);
 }
 
 /* The header of the block whose bit stands highest in `sync`: 01 for 1, 10 for 0. */
@@ -72,26 +101,75 @@ static inline u64 header(u32 sync) {
     return 2 - (sync >> 31);
 }
 
-static inline void send_one(u8 mode, u32 e, struct zaytulobe_sender *state, const u8 *user, u32 command, u8 *lane) {
-    u32 last = state->number + 1 == e, parity = 0;
+/* Four blocks without fill bits: 33 octets. */
+static inline void put_narrow(u8 *lane, u32 sync, const u64 *blocks) {
+    store(lane, header(sync) << 62 | blocks[0] >> 2);
+    store(lane + 8, blocks[0] << 62 | header(sync << 1) << 60 | blocks[1] >> 4);
+    store(lane + 16, blocks[1] << 60 | header(sync << 2) << 58 | blocks[2] >> 6);
+    store(lane + 24, blocks[2] << 58 | header(sync << 3) << 56 | blocks[3] >> 8);
+    lane[32] = (u8)blocks[3];
+}
+
+/* Four octets with room for a pair before each: the upper two move up by four bits, then of each two the upper one by two. */
+static inline u64 spread(u64 four) {
+    four += (four & 0xffff0000) * 15;
+    return four + (four & 0xff000ff00) * 3;
+}
+
+/* F3 to F6 are PRBS[10:9] to PRBS[16:15]: four copies of these bits, 12 apart, have each pair in its place. */
+static inline u64 lower_pairs(u32 fill) {
+    return ((fill >> 7) * 0x1001001001 & kept_lower[fill & 7]) | put_lower[fill & 7];
+}
+
+/* A block with fill bits: ten octets. */
+static inline void put_wide(u8 *lane, u32 sync, u64 block, u32 fill) {
+    u64 upper = header(sync) << 38 | upper_pairs[fill & 511] | spread(block >> 32);
+    u64 lower = lower_pairs(fill) | spread(block & 0xffffffff);
+    u16 start = __builtin_bswap16((u16)(upper >> 24));
+    __builtin_memcpy(lane, &start, 2);
+    store(lane + 2, upper << 40 | lower);
+}
+
+/* The register 17 bits later: 14 of them by the old bits alone, the last three by the first of the new. */
+static inline u32 next_fill(u32 fill) {
+    u32 next = ~(fill ^ fill << 3) & 0x1ffff;
+    return next ^ next >> 14;
+}
+
+static inline u32 put_four_wide(u8 *lane, u32 sync, const u64 *blocks, u32 fill) {
+    for (int k = 0; k < 4; k++, fill = next_fill(fill))
+        put_wide(lane + 10 * k, sync << k, blocks[k], fill);
+    return fill;
+}
+
+FOR_EACH_MODE void send_one(u8 mode, u32 e, struct zaytulobe_sender *state, const u8 *user, u32 command, u8 *lane) {
+    u32 last = state->number + 1 == e, parity = 0, fill = state->fill;
     u32 sync = sync_word(mode, state->parity, command, last);
     u64 history = state->history;
-    for (int four = 0; four < 8; four++, user += 32, lane += 33, sync <<= 4) {
+    for (int four = 0; four < 8; four++, user += 32, lane += lane_octets(mode) / 8, sync <<= 4) {
         u64 blocks[4];
         for (int k = 0; k < 4; k++) {
             u64 own = load(user + 8 * k) ^ history << 25 ^ history << 6;
             history = blocks[k] = own ^ own >> 39 ^ own >> 58;
             parity = next_parity(mode, parity, history);
         }
-        store(lane, header(sync) << 62 | blocks[0] >> 2);
-        store(lane + 8, blocks[0] << 62 | header(sync << 1) << 60 | blocks[1] >> 4);
-        store(lane + 16, blocks[1] << 60 | header(sync << 2) << 58 | blocks[2] >> 6);
-        store(lane + 24, blocks[2] << 58 | header(sync << 3) << 56 | blocks[3] >> 8);
-        lane[32] = (u8)blocks[3];
+        if (gap(mode))
+            fill = put_four_wide(lane, sync, blocks, fill);
+        else
+            put_narrow(lane, sync, blocks);
     }
     state->history = history & ((1ul << 58) - 1);
     state->parity = parity;
     state->number = last ? 0 : state->number + 1;
+    state->fill = fill;
+}
+
+FOR_EACH_MODE void send_all(
+    u8 mode, u32 e, struct zaytulobe_sender *state, const u8 *user, const u32 *commands, size count, u8 *lane) {
+    struct zaytulobe_sender now = *state;
+    for (size k = 0; k < count; k++)
+        send_one(mode, e, &now, user + USER_OCTETS * k, commands[k], lane + lane_octets(mode) * k);
+    *state = now;
 }
 
 SEND(tuned_send) {
@@ -99,32 +177,59 @@ SEND(tuned_send) {
     sent.refusal = send_refusal(mode, e, state, user_length, commands, commands_length, lane_length);
     if (sent.refusal)
         return sent;
-    struct zaytulobe_sender now = state;
-    if (mode == FEC)
-        for (size k = 0; k < commands_length; k++)
-            send_one(FEC, e, &now, user + USER_OCTETS * k, commands[k], lane + LANE_OCTETS * k);
-    else
-        for (size k = 0; k < commands_length; k++)
-            send_one(CRC12, e, &now, user + USER_OCTETS * k, commands[k], lane + LANE_OCTETS * k);
-    sent.state = now;
+    switch (mode) {
+    case CRC12: send_all(CRC12, e, &sent.state, user, commands, commands_length, lane); break;
+    case FEC: send_all(FEC, e, &sent.state, user, commands, commands_length, lane); break;
+    case CRC12_80: send_all(CRC12_80, e, &sent.state, user, commands, commands_length, lane); break;
+    default: send_all(FEC_80, e, &sent.state, user, commands, commands_length, lane);
+    }
     sent.count = commands_length;
     return sent;
 }
 
-/* The data of 32 blocks go to `words`; the headers' first and second bits are gathered, block 0 highest. */
-static inline void hear(const u8 *lane, u64 *words, u32 *first, u32 *second) {
-    u32 headers_first = 0, headers_second = 0;
-    for (int four = 0; four < 8; four++, lane += 33, words += 4) {
-        u64 a = load(lane), b = load(lane + 8), c = load(lane + 16), d = load(lane + 24);
-        words[0] = a << 2 | b >> 62;
-        words[1] = b << 4 | c >> 60;
-        words[2] = c << 6 | d >> 58;
-        words[3] = d << 8 | lane[32];
-        headers_first = headers_first << 4 | (a >> 63) << 3 | (b >> 61 & 1) << 2 | (c >> 59 & 1) << 1 | (d >> 57 & 1);
-        headers_second = headers_second << 4 | (a >> 62 & 1) << 3 | (b >> 60 & 1) << 2 | (c >> 58 & 1) << 1 | (d >> 56 & 1);
+/* The first and the second bits of headers, the latest lowest. */
+struct headers {
+    u32 first, second;
+};
+
+/* The data of four blocks without fill bits go to `words`. */
+static inline struct headers hear_narrow(const u8 *lane, u64 *words, struct headers before) {
+    u64 a = load(lane), b = load(lane + 8), c = load(lane + 16), d = load(lane + 24);
+    words[0] = a << 2 | b >> 62;
+    words[1] = b << 4 | c >> 60;
+    words[2] = c << 6 | d >> 58;
+    words[3] = d << 8 | lane[32];
+    u32 first = (u32)((a >> 63) << 3 | (b >> 61 & 1) << 2 | (c >> 59 & 1) << 1 | (d >> 57 & 1));
+    u32 second = (u32)((a >> 62 & 1) << 3 | (b >> 60 & 1) << 2 | (c >> 58 & 1) << 1 | (d >> 56 & 1));
+    return (struct headers){before.first << 4 | first, before.second << 4 | second};
+}
+
+/* Four octets of a half without the pair before each. */
+static inline u64 gathered(u64 half) {
+    u64 twos = (half & 0xff000ff) | (half >> 2 & 0xff000ff00);
+    return (twos & 0xffff) | (twos >> 4 & 0xffff0000);
+}
+
+/* The data of four blocks with fill bits, ten octets each. */
+static inline struct headers hear_wide(const u8 *lane, u64 *words, struct headers before) {
+    for (int k = 0; k < 4; k++, lane += 10) {
+        u16 start;
+        __builtin_memcpy(&start, lane, 2);
+        start = __builtin_bswap16(start);
+        u64 rest = load(lane + 2);
+        words[k] = gathered((u64)start << 24 | rest >> 40) << 32 | gathered(rest);
+        before.first = before.first << 1 | start >> 15;
+        before.second = before.second << 1 | (start >> 14 & 1);
     }
-    *first = headers_first;
-    *second = headers_second;
+    return before;
+}
+
+/* The data of 32 blocks go to `words`; block 0 stands highest in the headers' bits. */
+FOR_EACH_MODE struct headers hear(u8 mode, const u8 *lane, u64 *words) {
+    struct headers headers = {0, 0};
+    for (int four = 0; four < 8; four++, lane += lane_octets(mode) / 8, words += 4)
+        headers = gap(mode) ? hear_wide(lane, words, headers) : hear_narrow(lane, words, headers);
+    return headers;
 }
 
 static inline u16 reversed(u32 bits, u32 width) {
@@ -159,7 +264,7 @@ static inline void flip(u64 *words, u32 place, u32 pattern) {
             words[at / 64] ^= 1ul << (63 - at % 64);
 }
 
-static inline u32 remainder_of(u8 mode, const u64 *words) {
+FOR_EACH_MODE u32 remainder_of(u8 mode, const u64 *words) {
     u32 parity = 0;
     for (int k = 0; k < BLOCKS; k++)
         parity = next_parity(mode, parity, words[k]);
@@ -174,22 +279,22 @@ struct outputs {
 };
 
 /* The waiting multiblock stays in 32 words from turn to turn; two sets of words change places. */
-static inline size receive_all(u8 mode, struct zaytulobe_receiver *state, const u8 *lane, size count, struct outputs out) {
+FOR_EACH_MODE size receive_all(u8 mode, struct zaytulobe_receiver *state, const u8 *lane, size count, struct outputs out) {
     u64 both[2][BLOCKS], *words = both[0], *next = both[1], history = state->history;
-    u32 first, second, command = state->command, trusted = state->trusted;
+    u32 command = state->command, trusted = state->trusted;
     u8 invalid = state->invalid;
     size released = 0;
     if (state->waiting)
         for (int k = 0; k < BLOCKS; k++)
             words[k] = load(state->octets + 8 * k);
-    for (size turn = 0; turn < count; turn++, lane += LANE_OCTETS) {
-        hear(lane, next, &first, &second);
-        u32 sync = ~first & second, equal = ~(first ^ second);
+    for (size turn = 0; turn < count; turn++, lane += lane_octets(mode)) {
+        struct headers headers = hear(mode, lane, next);
+        u32 sync = ~headers.first & headers.second, equal = ~(headers.first ^ headers.second);
         if (turn || state->waiting) {
             u32 difference = remainder_of(mode, words) ^ parity_in(mode, sync), status = ZAYTULOBE_AGREES;
             u16 place = 0, pattern = 0;
             if (difference) {
-                status = mode == FEC && trap(difference, &place, &pattern) ? ZAYTULOBE_REPAIRED : ZAYTULOBE_FAILED;
+                status = has_fec(mode) && trap(difference, &place, &pattern) ? ZAYTULOBE_REPAIRED : ZAYTULOBE_FAILED;
                 flip(words, place, pattern);
             }
             u8 *octets = out.octets + USER_OCTETS * released;
@@ -228,8 +333,13 @@ RECEIVE(tuned_receive) {
     if (received.refusal || lane_length == 0)
         return received;
     struct outputs out = {octets, statuses, commands, places, patterns, invalid};
-    received.count = mode == FEC ? receive_all(FEC, &received.state, lane, lane_length / LANE_OCTETS, out)
-                                 : receive_all(CRC12, &received.state, lane, lane_length / LANE_OCTETS, out);
+    size count = lane_length / lane_octets(mode);
+    switch (mode) {
+    case CRC12: received.count = receive_all(CRC12, &received.state, lane, count, out); break;
+    case FEC: received.count = receive_all(FEC, &received.state, lane, count, out); break;
+    case CRC12_80: received.count = receive_all(CRC12_80, &received.state, lane, count, out); break;
+    default: received.count = receive_all(FEC_80, &received.state, lane, count, out);
+    }
     return received;
 }
 

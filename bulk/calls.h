@@ -6,8 +6,13 @@
 
 enum { BEFORE = 165 };
 
-static const u8 MODES[8] = {0, 0, 0, 0, 1, 1, 1, 2};
+static const u8 ANY_MODES[16] = {0, 0, 0, 0, 1, 1, 1, 2, 2, 2, 2, 3, 3, 3, 4, 255};
 static const u32 EXTENTS[8] = {1, 2, 3, 4, 256, 255, 257, 0};
+
+/* With a mode that there isn't, all else is drawn as with this one. */
+static u8 drawn_as(u8 mode) {
+    return mode < MODES ? mode : FEC;
+}
 
 static u32 or_more(u32 number, u32 more) {
     return rarely() ? number + more : number;
@@ -24,8 +29,8 @@ static u64 draw_history(void) {
     return rarely() ? history + (1UL << 58) : history;
 }
 
-static size draw_count(void) {
-    return draw(32) == 0 ? MOST_MULTIBLOCKS - 1 + draw(3) : draw(4);
+static size draw_count(u8 as) {
+    return draw(32) == 0 ? most_multiblocks(as) - 1 + draw(3) : draw(4);
 }
 
 static size draw_parts(u8 *octets, size part, size count) {
@@ -36,40 +41,53 @@ static size draw_parts(u8 *octets, size part, size count) {
     return length;
 }
 
-static u32 draw_parity(u8 mode) {
-    if (mode == CRC12)
+static u32 draw_parity(u8 as) {
+    if (!has_fec(as))
         return or_more((u32)draw(1 << 12), 1 << 12);
     u32 parity = (u32)draw(1 << 13);
     parity = parity << 13 | (u32)draw(1 << 13);
     return or_more(parity, 1 << 26);
 }
 
-static size draw_commands(u8 mode, size count) {
+static u32 draw_fill(u8 as) {
+    static const u32 edges[6] = {0, 1, 131070, 131071, 131072, 0xffffffff};
+    u32 any = gap(as) == 0 ? 0 : (u32)draw(1 << 17);
+    return draw(8) == 0 ? edges[draw(6)] : any;
+}
+
+static struct zaytulobe_sender draw_sender(u8 as, u32 e) {
+    struct zaytulobe_sender state;
+    state.history = draw_history();
+    state.parity = draw_parity(as);
+    state.number = or_more((u32)draw(e == 0 ? 1 : e), e);
+    state.fill = draw_fill(as);
+    return state;
+}
+
+static size draw_commands(u8 as, size count) {
+    u32 most = ZAYTULOBE_MOST_COMMAND(as);
     size length = count + (size)rarely();
     for (size k = 0; k < length; k++)
-        commands[k] = mode == CRC12 ? (u32)draw(ZAYTULOBE_MOST_COMMAND(CRC12) + 1) : 0;
+        commands[k] = most == 0 ? 0 : (u32)draw(most + 1);
     if (rarely() && length > 0)
-        commands[draw(length)] = mode == CRC12 ? ZAYTULOBE_MOST_COMMAND(CRC12) + 1 : 1;
+        commands[draw(length)] = most + 1;
     return length;
 }
 
 static void send_call(u64 seed) {
-    u8 mode = MODES[draw(8)];
+    u8 mode = ANY_MODES[draw(16)], as = drawn_as(mode);
     u32 e = EXTENTS[draw(8)];
-    struct zaytulobe_sender state;
-    state.history = draw_history();
-    state.parity = draw_parity(mode);
-    state.number = or_more((u32)draw(e == 0 ? 1 : e), e);
-    size count = draw_count();
+    struct zaytulobe_sender state = draw_sender(as, e);
+    size count = draw_count(as), whole = lane_octets(as) * count;
     size user_length = draw_parts(user, USER_OCTETS, count);
-    size commands_length = draw_commands(mode, count);
-    size room = LANE_OCTETS * count + draw(16);
+    size commands_length = draw_commands(as, count);
+    size room = whole + draw(16);
     if (rarely())
-        room = count == 0 ? 0 : LANE_OCTETS * count - 1;
+        room = whole == 0 ? 0 : whole - 1;
     memset(lane, BEFORE, room);
     struct zaytulobe_sent sent = zaytulobe_send(mode, e, state, user, user_length, commands, commands_length, lane, room);
-    printf("%lu send %d %lu %lu %u %u %016lx\n", seed, sent.refusal, sent.count, sent.state.history, sent.state.parity,
-        sent.state.number, digest_of(lane, room));
+    printf("%lu send %d %lu %lu %u %u %u %016lx\n", seed, sent.refusal, sent.count, sent.state.history, sent.state.parity,
+        sent.state.number, sent.state.fill, digest_of(lane, room));
 }
 
 static u8 draw_invalid_count(void) {
@@ -78,7 +96,7 @@ static u8 draw_invalid_count(void) {
     return draw(4) == 0 ? edges[draw(4)] : any;
 }
 
-static struct zaytulobe_receiver draw_any_receiver(u8 mode) {
+static struct zaytulobe_receiver draw_any_receiver(u8 as) {
     static const u8 waits[8] = {0, 0, 0, 1, 1, 1, 1, 1};
     struct zaytulobe_receiver state;
     u32 waiting = waits[draw(8)];
@@ -86,15 +104,15 @@ static struct zaytulobe_receiver draw_any_receiver(u8 mode) {
     u32 trusted = (u32)draw(2);
     state.trusted = (u8)or_rather(trusted, 2);
     state.history = draw_history();
-    u32 command = mode == CRC12 ? (u32)draw(2 * ZAYTULOBE_COMMAND_FLAG) : 0;
-    state.command = or_more(command, mode == CRC12 ? 2 * ZAYTULOBE_COMMAND_FLAG : 1);
+    u32 command = has_fec(as) ? 0 : (u32)draw(2 * ZAYTULOBE_COMMAND_FLAG);
+    state.command = or_more(command, has_fec(as) ? 1 : 2 * ZAYTULOBE_COMMAND_FLAG);
     draw_octets(state.octets, USER_OCTETS);
     state.invalid = draw_invalid_count();
     return state;
 }
 
-static struct zaytulobe_receiver draw_receiver(u8 mode) {
-    struct zaytulobe_receiver any = draw_any_receiver(mode), none;
+static struct zaytulobe_receiver draw_receiver(u8 as) {
+    struct zaytulobe_receiver any = draw_any_receiver(as), none;
     memset(&none, 0, sizeof none);
     if (any.waiting != 0)
         return any;
@@ -147,10 +165,10 @@ static u64 lent_digest(const size *rooms) {
 
 static void receive_call(u64 seed) {
     size rooms[LENT];
-    u8 mode = MODES[draw(8)];
-    struct zaytulobe_receiver state = draw_receiver(mode);
-    size count = draw_count();
-    size lane_length = draw_parts(lane, LANE_OCTETS, count);
+    u8 mode = ANY_MODES[draw(16)], as = drawn_as(mode);
+    struct zaytulobe_receiver state = draw_receiver(as);
+    size count = draw_count(as);
+    size lane_length = draw_parts(lane, lane_octets(as), count);
     draw_lent(rooms, count);
     struct zaytulobe_received received = zaytulobe_receive(mode, state, lane, lane_length, octets, rooms[0], statuses, rooms[1],
         got_commands, rooms[2], places, rooms[3], patterns, rooms[4], invalid, rooms[5]);
@@ -190,13 +208,14 @@ static struct zaytulobe_extended_lock draw_extended(u32 period) {
     return lock;
 }
 
-static struct zaytulobe_lock draw_lock(u32 e) {
+static struct zaytulobe_lock draw_lock(u8 as, u32 e) {
     static const u32 locks[8] = {0, 1, 1, 1, 1, 1, 1, 1};
+    u32 bits = (u32)block_bits(as);
     struct zaytulobe_lock lock;
     u32 locked = locks[draw(8)];
     lock.header.locked = or_rather(locked, 2);
-    u32 offset = (u32)draw(BLOCK_BITS);
-    lock.header.offset = or_more(offset, BLOCK_BITS);
+    u32 offset = (u32)draw(bits);
+    lock.header.offset = or_more(offset, bits);
     u32 run = (u32)draw(64);
     lock.header.run = or_more(run, 64);
     u32 bad = lock.header.locked == 1 ? (u32)draw(16) : 0;
@@ -214,9 +233,9 @@ static void print_lock(struct zaytulobe_lock lock) {
 }
 
 static void step_call(u64 seed) {
-    u8 mode = MODES[draw(8)];
+    u8 mode = ANY_MODES[draw(16)];
     u32 e = EXTENTS[draw(8)];
-    struct zaytulobe_lock lock = draw_lock(e);
+    struct zaytulobe_lock lock = draw_lock(drawn_as(mode), e);
     u32 header = (u32)draw(4);
     header = or_more(header, 4);
     struct zaytulobe_stepped stepped = zaytulobe_lock_step(mode, e, lock, (u8)header);

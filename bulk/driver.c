@@ -1,7 +1,8 @@
 /* driver FIRST LAST: prints a line for the seeded case of each seed from FIRST to LAST, worked by the proved library. The
    second program prints the same lines by `second bulk FIRST LAST`: second/src/bulk.rs says which case a seed is, and
    lanes.rs, damaged.rs, locks.rs, listed.rs and calls.rs what is drawn and what a line holds. Lanes and damaged lanes are
-   worked again with every cut into two calls; where that makes a difference the line says so, and then no longer agrees. */
+   worked again with every cut into two calls, and damaged lanes with every fill bit flipped; where that makes a difference the
+   line says so, and then no longer agrees. */
 #include "calls.h"
 
 u64 strtoul(const char *text, char **end, int base);
@@ -13,35 +14,38 @@ static void cut_at(size cut) {
     calls[1] = drawn.multiblocks - cut;
 }
 
-/* Sends the input in its calls, from a fresh state. */
-static struct zaytulobe_sender send_calls(void) {
+/* Sends the input in its calls, from a fresh state but for its fill. */
+static struct zaytulobe_sender send_calls(u32 fill) {
+    size octets = lane_octets(drawn.mode);
     struct zaytulobe_sender state = zaytulobe_fresh_sender();
+    state.fill = fill;
     memset(lane, 0, drawn.lane_length);
     for (size k = 0, from = 0; k < call_count; from += calls[k++]) {
         size n = calls[k];
         state = zaytulobe_send(
-            drawn.mode, drawn.e, state, user + USER_OCTETS * from, USER_OCTETS * n, commands + from, n, lane + LANE_OCTETS * from,
-            LANE_OCTETS * n).state;
+            drawn.mode, drawn.e, state, user + USER_OCTETS * from, USER_OCTETS * n, commands + from, n, lane + octets * from,
+            octets * n).state;
     }
     return state;
 }
 
 static u64 sent_digest(struct zaytulobe_sender state) {
     u64 digest = with_number(digest_of(lane, drawn.lane_length), state.history);
-    return with_number(with_number(digest, state.parity), state.number);
+    return with_number(with_number(with_number(digest, state.parity), state.number), state.fill);
 }
 
 static void sent_line(u64 seed) {
     draw_settings();
     draw_input(1 + draw(6));
     draw_calls();
-    struct zaytulobe_sender state = send_calls();
-    printf("%lu lane %d %u %lu %lu %016lx %lu %u %u", seed, drawn.mode, drawn.e, drawn.multiblocks, call_count,
-        digest_of(lane, drawn.lane_length), state.history, state.parity, state.number);
+    u32 fill = gap(drawn.mode) == 0 ? 0 : (u32)draw(131071);
+    struct zaytulobe_sender state = send_calls(fill);
+    printf("%lu lane %d %u %lu %lu %016lx %lu %u %u %u", seed, drawn.mode, drawn.e, drawn.multiblocks, call_count,
+        digest_of(lane, drawn.lane_length), state.history, state.parity, state.number, state.fill);
     u64 digest = sent_digest(state);
     for (size cut = 0; cut <= drawn.multiblocks; cut++) {
         cut_at(cut);
-        if (sent_digest(send_calls()) != digest)
+        if (sent_digest(send_calls(fill)) != digest)
             printf(" another if cut at %lu", cut);
     }
     printf("\n");
@@ -49,12 +53,12 @@ static void sent_line(u64 seed) {
 
 /* Receives the lane in its calls, from a fresh state, each release after those before it; the number of all. */
 static size receive_calls(struct zaytulobe_receiver *state) {
-    size count = 0;
+    size count = 0, taken = lane_octets(drawn.mode);
     *state = zaytulobe_fresh_receiver();
     for (size k = 0, from = 0; k < call_count; from += calls[k++]) {
         size n = calls[k];
         struct zaytulobe_received received = zaytulobe_receive(
-            drawn.mode, *state, lane + LANE_OCTETS * from, LANE_OCTETS * n, octets + USER_OCTETS * count, USER_OCTETS * n,
+            drawn.mode, *state, lane + taken * from, taken * n, octets + USER_OCTETS * count, USER_OCTETS * n,
             statuses + count, n, got_commands + count, n, places + count, n, patterns + count, n, invalid + count, n);
         *state = received.state;
         count += received.count;
@@ -85,6 +89,10 @@ static void damaged_line(u64 seed) {
     printf("%lu damaged %d %lu %lu %lu", seed, drawn.mode, drawn.multiblocks, drawn.kind, count);
     print_received(&state, count);
     u64 digest = received_digest(&state, count);
+    flip_fill(every_one, 0);
+    count = receive_calls(&state);
+    if (received_digest(&state, count) != digest)
+        printf(" another if every fill bit is flipped");
     for (size cut = 0; cut <= drawn.multiblocks; cut++) {
         cut_at(cut);
         count = receive_calls(&state);
@@ -105,7 +113,7 @@ static u8 noisy(size noise, u8 header) {
 
 static size draw_header_values(size noise, size first, size extent) {
     size steps = 0;
-    for (size bit = BLOCK_BITS * first; bit < 8 * drawn.lane_length; bit += BLOCK_BITS)
+    for (size bits = block_bits(drawn.mode), bit = bits * first; bit < 8 * drawn.lane_length; bit += bits)
         headers[steps++] = noisy(noise, lane[bit / 8] >> (6 - bit % 8) & 3);
     if (draw(5) != 0)
         return steps;
@@ -126,7 +134,7 @@ static u64 with_lock(u64 digest, struct zaytulobe_lock lock) {
 }
 
 static void lock_line(u64 seed) {
-    drawn.mode = (u8)draw(2);
+    drawn.mode = draw_mode();
     size extent = 1 + draw(3);
     drawn.e = (u32)extent;
     draw_input(6 * extent + 4);
@@ -144,15 +152,16 @@ static void lock_line(u64 seed) {
     print_lock(lock);
 }
 
-static u8 capture[HEAD + LANE_OCTETS * MOST + 300], text[4096];
+static u8 capture[HEAD + MOST_LANE_OCTETS * MOST + 300], text[4096];
 
 static void draw_other_lane(void) {
-    if (draw(64) == 0) {
-        drawn.lane_length = LANE_OCTETS * (MOST_MULTIBLOCKS - 1 + draw(3));
+    size octets = lane_octets(drawn.mode);
+    if (draw(32) == 0) {
+        drawn.lane_length = octets * (most_multiblocks(drawn.mode) - 1 + draw(3));
         draw_octets(lane, drawn.lane_length);
     }
     if (draw(4) == 0)
-        drawn.lane_length = LANE_OCTETS * draw(drawn.lane_length / LANE_OCTETS + 1);
+        drawn.lane_length = octets * draw(drawn.lane_length / octets + 1);
 }
 
 static void put_extent(size e) {
@@ -180,7 +189,7 @@ static size draw_capture(void) {
     draw_other_lane();
     size form = draw(12), place;
     if (form == 6) {
-        size lost = draw(LANE_OCTETS);
+        size lost = draw(lane_octets(drawn.mode));
         drawn.lane_length -= lost < drawn.lane_length ? lost : drawn.lane_length;
     }
     size length = put_capture();
@@ -191,6 +200,7 @@ static size draw_capture(void) {
     case 3: place = draw(HEAD); capture[place] = (u8)draw(256); break;
     case 4: length = draw(length + 1); break;
     case 5: place = length; length += 1 + draw(300); draw_octets(capture + place, length - place); break;
+    case 7: capture[4] = (u8)draw(5); break;
     }
     return length;
 }

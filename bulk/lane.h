@@ -4,7 +4,7 @@
 
 #include "draw.h"
 
-enum { MOST_CALLS = 64, LONG_BURST = 14, LONG_STRETCH = 96, CLEAR_BITS = 4224 };
+enum { MOST_CALLS = 64, LONG_BURST = 14, LONG_STRETCH = 96 };
 
 static struct {
     u8 mode;
@@ -13,7 +13,7 @@ static struct {
     size kind;
     size lane_length;
 } drawn;
-static u8 user[USER_OCTETS * MOST], lane[LANE_OCTETS * MOST];
+static u8 user[USER_OCTETS * MOST], lane[MOST_LANE_OCTETS * MOST];
 static u32 commands[MOST];
 
 /* How many multiblocks each call takes. */
@@ -21,23 +21,26 @@ static size calls[MOST_CALLS], call_count;
 
 static void draw_input(size multiblocks) {
     drawn.multiblocks = multiblocks;
-    drawn.lane_length = LANE_OCTETS * multiblocks;
+    drawn.lane_length = lane_octets(drawn.mode) * multiblocks;
     draw_octets(user, USER_OCTETS * multiblocks);
     for (size k = 0; k < multiblocks; k++)
-        commands[k] = drawn.mode == FEC ? 0 : (u32)draw(ZAYTULOBE_MOST_COMMAND(CRC12) + 1);
+        commands[k] = has_fec(drawn.mode) ? 0 : (u32)draw(ZAYTULOBE_MOST_COMMAND(drawn.mode) + 1);
 }
 
 /* The lane that a fresh sender makes of the input in one call; of zeros if it is refused, which then shows. */
 static void send_input(void) {
     size n = drawn.multiblocks;
     memset(lane, 0, drawn.lane_length);
-    zaytulobe_send(drawn.mode, drawn.e, zaytulobe_fresh_sender(), user, USER_OCTETS * n, commands, n, lane,
-        LANE_OCTETS * n);
+    zaytulobe_send(drawn.mode, drawn.e, zaytulobe_fresh_sender(), user, USER_OCTETS * n, commands, n, lane, drawn.lane_length);
+}
+
+static u8 draw_mode(void) {
+    return (u8)draw(MODES);
 }
 
 static void draw_settings(void) {
     static const u32 extents[4] = {1, 2, 3, 256};
-    drawn.mode = (u8)draw(2);
+    drawn.mode = draw_mode();
     drawn.e = extents[draw(4)];
 }
 
@@ -67,20 +70,20 @@ static void draw_burst(size at_most, size lane_bits) {
 }
 
 static void draw_far_bursts(size at_most, size lane_bits) {
-    size first = draw(CLEAR_BITS);
+    size bits = multiblock_bits(drawn.mode), clear_bits = 2 * bits, first = draw(clear_bits);
     for (;;) {
         size last = first + draw(at_most);
         if (last >= lane_bits)
             return;
         draw_bits(first, last);
-        first = last + 1 + CLEAR_BITS;
-        first += draw(MULTIBLOCK_BITS);
+        first = last + 1 + clear_bits;
+        first += draw(bits);
     }
 }
 
 /* The header of a block becomes 11 or 00. */
 static void put_invalid(size block, int ones) {
-    size bit = BLOCK_BITS * block;
+    size bit = block_bits(drawn.mode) * block;
     u8 both = (u8)(192 >> bit % 8);
     if (ones)
         lane[bit / 8] |= both;
@@ -116,25 +119,43 @@ static void draw_noise(size blocks) {
 }
 
 static void draw_octet(void) {
-    size place = draw(LANE_OCTETS * drawn.multiblocks);
+    size place = draw(drawn.lane_length);
     lane[place] = (u8)draw(256);
 }
 
 /* Whether the header of a block carries parity: Tables 41 and 45. */
 static int carries_parity(size block) {
-    return drawn.mode == FEC ? block < 27 && block != 22 : block < 16 && block % 4 != 3;
+    return has_fec(drawn.mode) ? block < 27 && block != 22 : block < 16 && block % 4 != 3;
 }
 
 static void flip_parities(void) {
+    size bits = block_bits(drawn.mode);
     for (size block = BLOCKS * (drawn.multiblocks / 2); block < BLOCKS * drawn.multiblocks; block++)
         if (carries_parity(block % BLOCKS)) {
-            flip(BLOCK_BITS * block);
-            flip(BLOCK_BITS * block + 1);
+            flip(bits * block);
+            flip(bits * block + 1);
         }
 }
 
+/* Flips each fill bit of the lane, in order, that the choice falls on. */
+static void flip_fill(int (*chosen)(size noise), size noise) {
+    for (size block = 0; block < BLOCKS * drawn.multiblocks; block++)
+        for (size k = 0; k < 7 * gap(drawn.mode); k++)
+            if (chosen(noise))
+                flip(block_bits(drawn.mode) * block + fill_place(drawn.mode, k));
+}
+
+static int one_in(size noise) {
+    return draw(noise) == 0;
+}
+
+static int every_one(size noise) {
+    (void)noise;
+    return 1;
+}
+
 static void damage(void) {
-    size limit = drawn.mode == FEC ? 9 : 12, lane_bits = MULTIBLOCK_BITS * drawn.multiblocks;
+    size limit = has_fec(drawn.mode) ? 9 : 12, lane_bits = 8 * drawn.lane_length;
     size blocks = BLOCKS * drawn.multiblocks;
     switch (drawn.kind) {
     case 1: draw_burst(limit, lane_bits); break;
@@ -143,9 +164,10 @@ static void damage(void) {
     case 4: for (size left = 1 + draw(64); left > 0; left--) draw_octet(); break;
     case 5: flip_parities(); break;
     case 6: draw_far_bursts(limit, lane_bits); break;
-    case 7: draw_octets(lane, LANE_OCTETS * drawn.multiblocks); break;
+    case 7: draw_octets(lane, drawn.lane_length); break;
     case 8: for (size left = 1 + draw(3); left > 0; left--) draw_stretch(blocks); break;
     case 9: draw_noise(blocks); break;
+    case 10: flip_fill(one_in, 1 + draw(8)); break;
     }
 }
 
@@ -153,7 +175,7 @@ static void draw_damaged(void) {
     draw_settings();
     draw_input(2 + draw(6));
     send_input();
-    drawn.kind = draw(10);
+    drawn.kind = draw(11);
     damage();
 }
 

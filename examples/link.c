@@ -1,6 +1,7 @@
 /* Sends four multiblocks in FEC mode, flips a burst of nine lane bits, the first of them in a header, receives what is left,
-   and prints what came back; then steps the locks by the lane's headers, and lists the lane as a capture. Compiles as C and as
-   C++. */
+   and prints what came back; then steps the locks by the lane's headers, and lists the lane as a capture. At last it sends and
+   receives the same octets with blocks of 80 bits, one multiblock a call: the state takes the register of the fill bits from each
+   call to the next. Compiles as C and as C++. */
 #include "zaytulobe.h"
 
 #ifdef __cplusplus
@@ -66,11 +67,33 @@ static void list(void) {
     printf("listing: refusal %d\n%.*s", listed.refusal, (int)listed.count, (const char *)text);
 }
 
+static void send_and_receive_80(void) {
+    enum { MODE_80 = ZAYTULOBE_FEC_80, ONE = ZAYTULOBE_LANE_OCTETS(MODE_80), USER_OCTETS = ZAYTULOBE_USER_OCTETS };
+    static zaytulobe_u8 wide[ONE];
+    struct zaytulobe_sent sent = {0, 0, zaytulobe_fresh_sender()};
+    struct zaytulobe_received received = {0, 0, zaytulobe_fresh_receiver()};
+    const zaytulobe_u32 command = 0;
+    for (int k = 0; k < MULTIBLOCKS; k++) {
+        zaytulobe_u8 status, invalid;
+        zaytulobe_u16 place, pattern;
+        zaytulobe_u32 got, fill = sent.state.fill;
+        sent = zaytulobe_send(MODE_80, E, sent.state, user + USER_OCTETS * k, USER_OCTETS, &command, 1, wide, ONE);
+        received = zaytulobe_receive(
+            MODE_80, received.state, wide, ONE, octets, USER_OCTETS, &status, 1, &got, 1, &place, 1, &pattern, 1, &invalid, 1);
+        printf("80 bits: refusals %d and %d, ", sent.refusal, received.refusal);
+        printf("fill %u, lane %02X %02X %02X ..", fill, wide[0], wide[1], wide[2]);
+        if (received.count == 1)
+            printf(", released with status %d", status);
+        printf("\n");
+    }
+}
+
 int main(void) {
     send();
     damage();
     receive();
     lock();
     list();
+    send_and_receive_80();
     return 0;
 }

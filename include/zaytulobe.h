@@ -1,7 +1,7 @@
 /*
- * One lane of the 64B/66B link layer of JESD204C, with CRC-12 or FEC sync words: sender, receiver, lock machines, longest
- * run and listing. The functions are proved: for every value of every argument each gives the one answer that its contract
- * states (crates/zaytulobe/src, docs/CONTRACTS.md). For x86-64 Linux; for C from C11 on, and C++ from C++11 on.
+ * One lane of the 64B/66B and 64B/80B link layers of JESD204C, with CRC-12 or FEC sync words: sender, receiver, lock machines,
+ * longest run and listing. The functions are proved: for every value of every argument each gives the one answer that its
+ * contract states (crates/zaytulobe/src, docs/CONTRACTS.md). For x86-64 Linux; for C from C11 on, and C++ from C++11 on.
  *
  * That this header is the library's is checked: the assertions at its end say where each field stands, to whoever compiles it,
  * and the gate runs C programs that show the library to read each field there (runs/layout.c) and to have these constants
@@ -29,22 +29,25 @@ typedef unsigned int zaytulobe_u32;
 typedef unsigned long zaytulobe_u64;
 typedef unsigned long zaytulobe_size;
 
+/* A sync word, and the bits of a block on the lane. */
 enum zaytulobe_mode {
-    ZAYTULOBE_CRC12 = 0,
-    ZAYTULOBE_FEC = 1
+    ZAYTULOBE_CRC12 = 0,    /* CRC-12, 66 bits */
+    ZAYTULOBE_FEC = 1,      /* FEC, 66 bits */
+    ZAYTULOBE_CRC12_80 = 2, /* CRC-12, 80 bits */
+    ZAYTULOBE_FEC_80 = 3    /* FEC, 80 bits */
 };
 
 enum zaytulobe_refusal {
     ZAYTULOBE_ACCEPTED = 0,
-    ZAYTULOBE_REFUSED_MODE = 1,     /* the mode is neither 0 nor 1 */
+    ZAYTULOBE_REFUSED_MODE = 1,     /* the mode is above 3 */
     ZAYTULOBE_REFUSED_E = 2,        /* E is outside 1 to 256 */
     ZAYTULOBE_REFUSED_STATE = 3,    /* a field of the state is out of range */
-    ZAYTULOBE_REFUSED_LENGTH = 4,   /* user octets are no multiple of 256, lane octets none of 264; of the longest run, octets
-                                       aren't 256 for each status */
-    ZAYTULOBE_REFUSED_COUNT = 5,    /* more than 240 multiblocks in one call */
+    ZAYTULOBE_REFUSED_LENGTH = 4,   /* user octets are no multiple of 256, lane octets none of 264, or of 320 in modes 2 and 3;
+                                       of the longest run, octets aren't 256 for each status */
+    ZAYTULOBE_REFUSED_COUNT = 5,    /* more than 240 multiblocks in one call, or 200 in modes 2 and 3 */
     ZAYTULOBE_REFUSED_COMMANDS = 6, /* there isn't one command for each multiblock, or one is too high for the mode */
     ZAYTULOBE_REFUSED_ROOM = 7,     /* a buffer lent to be written is too short for what would be written */
-    ZAYTULOBE_REFUSED_CAPTURE = 8,  /* a capture hasn't the form of one */
+    ZAYTULOBE_REFUSED_CAPTURE = 8,  /* a capture hasn't the form of one, or is too long for its mode */
     ZAYTULOBE_REFUSED_HEADER = 9    /* a header value is above 3 */
 };
 
@@ -63,35 +66,46 @@ enum zaytulobe_phase {
     ZAYTULOBE_LOCKED = 2
 };
 
-/* A multiblock: its blocks, its user octets, and by mode the bits of a block on the lane, its header among them, and the octets of
-   the multiblock there. Both modes have the same. */
+/* Whether a mode has FEC sync words, and whether it has blocks of 80 bits. As an int a mode compares with these names, of whatever
+   type it is. */
+#define ZAYTULOBE_HAS_FEC(mode) ((int)(mode) == ZAYTULOBE_FEC || (int)(mode) == ZAYTULOBE_FEC_80)
+#define ZAYTULOBE_HAS_80(mode) ((int)(mode) == ZAYTULOBE_CRC12_80 || (int)(mode) == ZAYTULOBE_FEC_80)
+
+/* A multiblock: its blocks, its user octets, and by mode the bits of a block on the lane and the octets of the multiblock there. A
+   block is its header of two bits and eight octets; one of 80 bits has two fill bits before each octet but the first. */
 #define ZAYTULOBE_BLOCKS 32
 #define ZAYTULOBE_USER_OCTETS 256
-#define ZAYTULOBE_BLOCK_BITS(mode) 66
+#define ZAYTULOBE_BLOCK_BITS(mode) (ZAYTULOBE_HAS_80(mode) ? 80 : 66)
 #define ZAYTULOBE_LANE_OCTETS(mode) (ZAYTULOBE_BLOCKS * ZAYTULOBE_BLOCK_BITS(mode) / 8)
 
-/* By mode: the most multiblocks that one call of the sender or the receiver takes, and the highest command that is sent. One that
-   is received has the flag added if one of its headers was invalid. */
-#define ZAYTULOBE_MOST_MULTIBLOCKS(mode) 240
-#define ZAYTULOBE_MOST_COMMAND(mode) ((mode) == ZAYTULOBE_FEC ? 0 : 127)
+/* By mode: the most multiblocks that one call of the sender or the receiver takes; the highest command that is sent; the highest
+   fill of a sender's state. A command that is received has the flag added if one of its headers was invalid. */
+#define ZAYTULOBE_MOST_MULTIBLOCKS(mode) (ZAYTULOBE_HAS_80(mode) ? 200 : 240)
+#define ZAYTULOBE_MOST_COMMAND(mode) (ZAYTULOBE_HAS_FEC(mode) ? 0 : 127)
+#define ZAYTULOBE_MOST_FILL(mode) (ZAYTULOBE_HAS_80(mode) ? 131070 : 0)
 #define ZAYTULOBE_COMMAND_FLAG 128
 
 /* E, the multiblocks of an extended multiblock. */
 #define ZAYTULOBE_LEAST_E 1
 #define ZAYTULOBE_MOST_E 256
 
-/* Octets of a capture before those of its lane; of the longest capture that is listed; and of the longest text that a listing
-   takes: one that is lent so much is never refused by 7. */
+/* Octets of a capture before those of its lane; by its mode, of the longest capture that is listed, 63,371 or 64,011, and so of the
+   longest in any mode; and of a text: one that is lent so much is never refused by 7. A line for a release has at most 15 octets.
+   In modes 0 and 1 the first line has at most 18, and 239 are released at most: 18 + 239 * 15 = 3,603. In modes 2 and 3 it is
+   21 + 199 * 15 = 3,006. */
 #define ZAYTULOBE_CAPTURE_HEAD 11
-#define ZAYTULOBE_LONGEST_CAPTURE 63371
+#define ZAYTULOBE_LONGEST_CAPTURE(mode) (ZAYTULOBE_CAPTURE_HEAD + ZAYTULOBE_LANE_OCTETS(mode) * ZAYTULOBE_MOST_MULTIBLOCKS(mode))
+#define ZAYTULOBE_LONGEST_OF_ALL ZAYTULOBE_LONGEST_CAPTURE(ZAYTULOBE_FEC_80)
 #define ZAYTULOBE_LONGEST_TEXT 3603
 
 /* The last 58 bits sent, the latest in bit 0; the parity of the last multiblock; the number of the next multiblock in its
-   extended multiblock. */
+   extended multiblock; the register of 17 bits that the next block's fill bits come from, its latest bit in bit 0, and 0 in
+   modes 0 and 1. */
 struct zaytulobe_sender {
     zaytulobe_u64 history;
     zaytulobe_u32 parity;
     zaytulobe_u32 number;
+    zaytulobe_u32 fill;
 };
 
 /* A refusal, or 0 with the multiblocks sent; the state for the next call. */
@@ -127,7 +141,8 @@ struct zaytulobe_run {
     zaytulobe_size count;
 };
 
-/* Whether headers are locked, 0 or 1; bits slipped, 0 to 65; valid headers in a row; invalid headers while locked. */
+/* Whether headers are locked, 0 or 1; bits slipped, 0 to 65, or to 79 in modes 2 and 3; valid headers in a row; invalid headers
+   while locked. */
 struct zaytulobe_header_lock {
     zaytulobe_u32 locked;
     zaytulobe_u32 offset;
@@ -166,8 +181,8 @@ struct zaytulobe_listed {
 /* The state of a sender that has sent nothing: all 0. */
 struct zaytulobe_sender zaytulobe_fresh_sender(void);
 
-/* Sends 256 user octets for each command: 264 octets for each go over the start of the lane, and the rest of it keeps its
-   values. Refused by 1 to 7. */
+/* Sends 256 user octets for each command: 264 octets for each, or 320 in modes 2 and 3, go over the start of the lane, and the
+   rest of it keeps its values. Refused by 1 to 7. */
 struct zaytulobe_sent zaytulobe_send(
     zaytulobe_u8 mode, zaytulobe_u32 e, struct zaytulobe_sender state,
     const zaytulobe_u8 *user, zaytulobe_size user_length,
@@ -177,10 +192,11 @@ struct zaytulobe_sent zaytulobe_send(
 /* The state of a receiver that has received nothing: all 0. */
 struct zaytulobe_receiver zaytulobe_fresh_receiver(void);
 
-/* Receives the multiblocks of the lane, 264 octets each. A multiblock is released when the next has come: release k of this
-   call writes 256 octets from 256 k on, and place k of each list: its status; its command; the place and pattern of the burst
-   that was flipped back, or 0 and 0; and how many of its own 32 headers were invalid, 0 to 32. All else keeps its values. The
-   state has the number of the one that waits then. Refused by 1, 3, 4, 5 or 7. */
+/* Receives the multiblocks of the lane, 264 octets each, or 320 in modes 2 and 3, whose fill bits are ignored. A multiblock is
+   released when the next has come: release k of this call writes 256 octets from 256 k on, and place k of each list: its status;
+   its command; the place and pattern of the burst that was flipped back, or 0 and 0; and how many of its own 32 headers were
+   invalid, 0 to 32. All else keeps its values. The state has the number of the one that waits then. Refused by 1, 3, 4, 5
+   or 7. */
 struct zaytulobe_received zaytulobe_receive(
     zaytulobe_u8 mode, struct zaytulobe_receiver state,
     const zaytulobe_u8 *lane, zaytulobe_size lane_length,
@@ -228,15 +244,16 @@ struct zaytulobe_listed zaytulobe_listing(
         sizeof(((struct zaytulobe_##name *)0)->field) == (octets), \
         "zaytulobe_" #name "." #field " has another place or size in the library")
 
-ZAYTULOBE_STRUCT(sender, 16);
+ZAYTULOBE_STRUCT(sender, 24);
 ZAYTULOBE_FIELD(sender, history, 0, 8);
 ZAYTULOBE_FIELD(sender, parity, 8, 4);
 ZAYTULOBE_FIELD(sender, number, 12, 4);
+ZAYTULOBE_FIELD(sender, fill, 16, 4);
 
-ZAYTULOBE_STRUCT(sent, 32);
+ZAYTULOBE_STRUCT(sent, 40);
 ZAYTULOBE_FIELD(sent, refusal, 0, 1);
 ZAYTULOBE_FIELD(sent, count, 8, 8);
-ZAYTULOBE_FIELD(sent, state, 16, 16);
+ZAYTULOBE_FIELD(sent, state, 16, 24);
 
 ZAYTULOBE_STRUCT(receiver, 272);
 ZAYTULOBE_FIELD(receiver, history, 0, 8);

@@ -28,14 +28,16 @@ static void give(const struct worked *worked) {
 }
 
 static void print_lane(const struct worked *worked) {
-    for (size k = 0; k < LANE_OCTETS; k++) {
+    for (size k = 0; k < lane_octets(worked->mode); k++) {
         if (k % 8 == 0)
             printf("%s lane %lu:", worked->name, k);
         printf(k % 8 == 7 ? " %02X\n" : " %02X", lane[k]);
     }
     printf("%s next", worked->name);
-    for (size block = BLOCKS; block < 2 * BLOCKS; block++)
-        printf(" %d%d", lane_bit(BLOCK_BITS * block), lane_bit(BLOCK_BITS * block + 1));
+    for (size block = 0; block < BLOCKS; block++) {
+        size place = header_place(worked->mode, 1, block);
+        printf(" %d%d", lane_bit(place), lane_bit(place + 1));
+    }
     printf("\n");
 }
 
@@ -44,7 +46,8 @@ int main(void) {
         const struct worked *worked = &WORKED[k];
         give(worked);
         struct zaytulobe_sent sent = zaytulobe_send(
-            worked->mode, E, zaytulobe_fresh_sender(), user, 2 * USER_OCTETS, worked->commands, 2, lane, 2 * LANE_OCTETS);
+            worked->mode, E, zaytulobe_fresh_sender(), user, 2 * USER_OCTETS, worked->commands, 2, lane,
+            2 * lane_octets(worked->mode));
         if (sent.refusal != ZAYTULOBE_ACCEPTED || sent.count != 2)
             stop("the sender refused");
         print_lane(worked);

@@ -1,10 +1,10 @@
 /* The constants of include/zaytulobe.h are the library's: beside each stands what the functions make of it, and of the number next
-   to it where it is an edge. Document 01, "Numbers of refusal", "What the receiver releases" and "Capture and listing".
-   constants.txt has the lines expected. */
+   to it where it is an edge. Document 01, "Numbers of refusal", "What the receiver releases" and "Capture and listing"; document 02,
+   request 2, for modes 2 and 3. constants.txt has the lines expected. */
 #include "lane.h"
 
 static struct releases out;
-static u8 capture[ZAYTULOBE_LONGEST_CAPTURE + 2], text[ZAYTULOBE_LONGEST_TEXT];
+static u8 capture[ZAYTULOBE_LONGEST_OF_ALL + 2], text[ZAYTULOBE_LONGEST_TEXT];
 
 /* A constant's name and number, by the header; what follows on the line is by the library. */
 #define NAMED(constant) printf("%s %lu: ", #constant, (u64)(constant))
@@ -18,7 +18,7 @@ static int sent(u8 mode, u32 e, size octets, size commands, size room) {
 }
 
 static int sent_multiblocks(u8 mode, size count) {
-    return sent(mode, 1, USER_OCTETS * count, count, LANE_OCTETS * count);
+    return sent(mode, 1, USER_OCTETS * count, count, lane_octets(mode) * count);
 }
 
 static int received(u8 mode, size octets) {
@@ -36,18 +36,26 @@ static struct zaytulobe_listed listed(u8 mode, u32 e, size octets, size room) {
     return zaytulobe_listing(capture, octets, text, room);
 }
 
+static void print_listed(u8 mode) {
+    struct zaytulobe_listed one = listed(mode, 1, HEAD, sizeof text);
+    printf("listed as %.*s", (int)one.count, (const char *)text);
+}
+
 static void run_modes(void) {
+    u8 next = ZAYTULOBE_FEC_80 + 1;
     NAMED(ZAYTULOBE_CRC12);
-    struct zaytulobe_listed one = listed(ZAYTULOBE_CRC12, 1, HEAD, sizeof text);
-    printf("listed as %.*s", (int)one.count, (const char *)text);
+    print_listed(ZAYTULOBE_CRC12);
     NAMED(ZAYTULOBE_FEC);
-    one = listed(ZAYTULOBE_FEC, 1, HEAD, sizeof text);
-    printf("listed as %.*s", (int)one.count, (const char *)text);
+    print_listed(ZAYTULOBE_FEC);
+    NAMED(ZAYTULOBE_CRC12_80);
+    print_listed(ZAYTULOBE_CRC12_80);
+    NAMED(ZAYTULOBE_FEC_80);
+    print_listed(ZAYTULOBE_FEC_80);
     printf("  the next mode: ");
-    print_answer("sender", ZAYTULOBE_FEC + 1, sent(ZAYTULOBE_FEC + 1, 1, 0, 0, 0));
-    print_answer(", receiver", ZAYTULOBE_FEC + 1, received(ZAYTULOBE_FEC + 1, 0));
-    print_answer(", locks", ZAYTULOBE_FEC + 1, zaytulobe_lock_step(ZAYTULOBE_FEC + 1, 1, zaytulobe_fresh_lock(), 1).refusal);
-    print_answer(", listing", ZAYTULOBE_FEC + 1, listed(ZAYTULOBE_FEC + 1, 1, HEAD, sizeof text).refusal);
+    print_answer("sender", next, sent(next, 1, 0, 0, 0));
+    print_answer(", receiver", next, received(next, 0));
+    print_answer(", locks", next, zaytulobe_lock_step(next, 1, zaytulobe_fresh_lock(), 1).refusal);
+    print_answer(", listing", next, listed(next, 1, HEAD, sizeof text).refusal);
     printf("\n");
 }
 
@@ -65,7 +73,7 @@ static void run_extents(void) {
 static void run_user_octets(void) {
     NAMED(ZAYTULOBE_USER_OCTETS);
     for (size octets = ZAYTULOBE_USER_OCTETS - 1; octets <= ZAYTULOBE_USER_OCTETS + 1; octets++)
-        print_answer(octets < ZAYTULOBE_USER_OCTETS ? "sender" : ",", octets, sent(CRC12, 1, octets, 1, LANE_OCTETS));
+        print_answer(octets < ZAYTULOBE_USER_OCTETS ? "sender" : ",", octets, sent(CRC12, 1, octets, 1, sizeof lane));
     printf("\n");
 }
 
@@ -86,8 +94,22 @@ static void run_most_multiblocks(u8 mode) {
     printf("%s, ", name_of(mode));
     print_answer("sender", most, sent_multiblocks(mode, most));
     print_answer(",", most + 1, sent_multiblocks(mode, most + 1));
-    print_answer("; receiver", most, received(mode, LANE_OCTETS * most));
-    print_answer(",", most + 1, received(mode, LANE_OCTETS * (most + 1)));
+    print_answer("; receiver", most, received(mode, lane_octets(mode) * most));
+    print_answer(",", most + 1, received(mode, lane_octets(mode) * (most + 1)));
+    printf("\n");
+}
+
+static int sent_from(u8 mode, u32 fill) {
+    struct zaytulobe_sender state = {.fill = fill};
+    return zaytulobe_send(mode, 1, state, user, USER_OCTETS, sent_commands, 1, lane, sizeof lane).refusal;
+}
+
+static void run_most_fill(u8 mode) {
+    u32 most = ZAYTULOBE_MOST_FILL(mode);
+    NAMED(ZAYTULOBE_MOST_FILL(mode));
+    printf("%s, ", name_of(mode));
+    print_answer("sender", most, sent_from(mode, most));
+    print_answer(",", most + 1, sent_from(mode, most + 1));
     printf("\n");
 }
 
@@ -110,23 +132,28 @@ static void run_commands(u8 mode) {
 /* Block 16 carries the highest bit of the command of CRC-12, here 1; its header becomes 11. */
 static void run_flag(void) {
     make_lane(CRC12, 1, 3);
-    flip_bit(2 * MULTIBLOCK_BITS + BLOCK_BITS * 16);
+    flip_bit(header_place(CRC12, 2, 16));
     u32 command = receive(CRC12, zaytulobe_fresh_receiver(), 0, 3, &out, 0).state.command;
     NAMED(ZAYTULOBE_COMMAND_FLAG);
     printf("command %u sent, %u received where the header of its highest bit is invalid, and so read as 0\n",
         sent_commands[2], command);
 }
 
-/* An invalid header moves a hunting header lock on by one bit, from the last offset to the first; the next look of a locked
-   extended lock is at most 32E blocks away. */
+/* An invalid header moves a hunting header lock on by one bit, from the last offset to the first. */
+static void run_block_bits(u8 mode) {
+    u32 bits = ZAYTULOBE_BLOCK_BITS(mode);
+    struct zaytulobe_lock last = {.header = {.offset = bits - 1}}, past = {.header = {.offset = bits}};
+    struct zaytulobe_stepped slipped = zaytulobe_lock_step(mode, 1, last, 0);
+    NAMED(ZAYTULOBE_BLOCK_BITS(mode));
+    printf("%s, ", name_of(mode));
+    print_answer("offset", bits - 1, slipped.refusal);
+    print_answer(",", bits, zaytulobe_lock_step(mode, 1, past, 0).refusal);
+    printf("; from %u an invalid header moves it to %u\n", bits - 1, slipped.lock.header.offset);
+}
+
+/* The next look of a locked extended lock is at most 32E blocks away. */
 static void run_blocks(void) {
-    struct zaytulobe_lock last = {.header = {.offset = BLOCK_BITS - 1}}, past = {.header = {.offset = BLOCK_BITS}};
     struct zaytulobe_lock held = {.header = {.locked = 1}, .extended = {.phase = ZAYTULOBE_LOCKED, .seen = 32, .next = 3 * BLOCKS}};
-    struct zaytulobe_stepped slipped = zaytulobe_lock_step(CRC12, 1, last, 0);
-    NAMED(ZAYTULOBE_BLOCK_BITS(CRC12));
-    print_answer("offset", BLOCK_BITS - 1, slipped.refusal);
-    print_answer(",", BLOCK_BITS, zaytulobe_lock_step(CRC12, 1, past, 0).refusal);
-    printf("; from %d an invalid header moves it to %u\n", BLOCK_BITS - 1, slipped.lock.header.offset);
     NAMED(ZAYTULOBE_BLOCKS);
     print_answer("E 3, next look in", 3 * BLOCKS, zaytulobe_lock_step(CRC12, 3, held, 1).refusal);
     held.extended.next++;
@@ -134,31 +161,54 @@ static void run_blocks(void) {
     printf("\n");
 }
 
-static void run_captures(void) {
-    NAMED(ZAYTULOBE_CAPTURE_HEAD);
-    print_answer("a capture of", HEAD, listed(CRC12, 1, HEAD, sizeof text).refusal);
-    print_answer(", without its last octet", HEAD - 1, zaytulobe_listing(capture, HEAD - 1, text, sizeof text).refusal);
-    printf("\n");
-    NAMED(ZAYTULOBE_LONGEST_CAPTURE);
-    print_answer("a capture of", ZAYTULOBE_LONGEST_CAPTURE, listed(CRC12, 1, ZAYTULOBE_LONGEST_CAPTURE, sizeof text).refusal);
-    print_answer(",", ZAYTULOBE_LONGEST_CAPTURE + 1, listed(CRC12, 1, ZAYTULOBE_LONGEST_CAPTURE + 1, sizeof text).refusal);
+static void print_capture(const char *tried, u8 mode, size octets) {
+    print_answer(tried, octets, listed(mode, 1, octets, sizeof text).refusal);
+}
+
+static void run_capture(u8 mode) {
+    size longest = ZAYTULOBE_LONGEST_CAPTURE(mode);
+    NAMED(ZAYTULOBE_LONGEST_CAPTURE(mode));
+    printf("%s, ", name_of(mode));
+    print_capture("a capture of", mode, longest);
+    print_capture(",", mode, longest + 1);
     printf("\n");
 }
 
-/* The longest listing that a lane brings about: in every multiblock a burst with a place of four digits and a pattern of three. */
-static void run_text(void) {
-    make_lane(FEC, ZAYTULOBE_MOST_E, MOST_MULTIBLOCKS);
-    for (size k = 0; k < MOST_MULTIBLOCKS; k++)
+/* A capture with a mode that there isn't may be as long as one of mode 0; one that is longer is refused by 8 before it is by 1. */
+static void run_captures(void) {
+    NAMED(ZAYTULOBE_CAPTURE_HEAD);
+    print_capture("a capture of", CRC12, HEAD);
+    print_answer(", without its last octet", HEAD - 1, zaytulobe_listing(capture, HEAD - 1, text, sizeof text).refusal);
+    printf("\n");
+    for (u8 mode = 0; mode < MODES; mode++)
+        run_capture(mode);
+    NAMED(ZAYTULOBE_LONGEST_OF_ALL);
+    print_capture("with mode 0 a capture of", CRC12, ZAYTULOBE_LONGEST_OF_ALL);
+    print_capture("; with mode 2", CRC12_80, ZAYTULOBE_LONGEST_OF_ALL);
+    print_capture(",", CRC12_80, ZAYTULOBE_LONGEST_OF_ALL + 1);
+    print_capture("; with mode 7", 7, ZAYTULOBE_LONGEST_CAPTURE(CRC12));
+    print_capture(",", 7, ZAYTULOBE_LONGEST_CAPTURE(CRC12) + 1);
+    print_capture(",", 7, ZAYTULOBE_LONGEST_OF_ALL);
+    print_capture(",", 7, ZAYTULOBE_LONGEST_OF_ALL + 1);
+    printf("\n");
+}
+
+/* The longest listing that a lane of the mode brings about: in every multiblock a burst with a place of four digits and a pattern of
+   three. */
+static void run_text(u8 mode) {
+    size most = most_multiblocks(mode), longest = ZAYTULOBE_LONGEST_CAPTURE(mode);
+    make_lane(mode, ZAYTULOBE_MOST_E, most);
+    for (size k = 0; k < most; k++)
         for (size bit = 0; bit < 7; bit++)
-            flip_position(FEC, k, 1000 + bit);
-    for (size k = 0; k < LANE_OCTETS * MOST_MULTIBLOCKS; k++)
+            flip_position(mode, k, 1000 + bit);
+    for (size k = 0; k < lane_octets(mode) * most; k++)
         capture[HEAD + k] = lane[k];
-    size needed = listed(FEC, ZAYTULOBE_MOST_E, ZAYTULOBE_LONGEST_CAPTURE, sizeof text).count;
+    size needed = listed(mode, ZAYTULOBE_MOST_E, longest, sizeof text).count;
     NAMED(ZAYTULOBE_LONGEST_TEXT);
-    printf("of the longest that a lane brings about %lu are written; ", needed);
-    print_answer("room", sizeof text, listed(FEC, ZAYTULOBE_MOST_E, ZAYTULOBE_LONGEST_CAPTURE, sizeof text).refusal);
-    print_answer(",", needed, listed(FEC, ZAYTULOBE_MOST_E, ZAYTULOBE_LONGEST_CAPTURE, needed).refusal);
-    print_answer(",", needed - 1, listed(FEC, ZAYTULOBE_MOST_E, ZAYTULOBE_LONGEST_CAPTURE, needed - 1).refusal);
+    printf("%s, of the longest that a lane brings about %lu are written; ", name_of(mode), needed);
+    print_answer("room", sizeof text, listed(mode, ZAYTULOBE_MOST_E, longest, sizeof text).refusal);
+    print_answer(",", needed, listed(mode, ZAYTULOBE_MOST_E, longest, needed).refusal);
+    print_answer(",", needed - 1, listed(mode, ZAYTULOBE_MOST_E, longest, needed - 1).refusal);
     printf("\n");
 }
 
@@ -168,7 +218,7 @@ static void run_refusals(void) {
     NAMED(ZAYTULOBE_ACCEPTED);
     printf("%d for a multiblock\n", sent_multiblocks(FEC, 1));
     NAMED(ZAYTULOBE_REFUSED_MODE);
-    printf("%d for mode 2\n", sent(2, 1, 0, 0, 0));
+    printf("%d for mode 4\n", sent(4, 1, 0, 0, 0));
     NAMED(ZAYTULOBE_REFUSED_E);
     printf("%d for E 0\n", sent(FEC, 0, 0, 0, 0));
     NAMED(ZAYTULOBE_REFUSED_STATE);
@@ -176,9 +226,9 @@ static void run_refusals(void) {
     NAMED(ZAYTULOBE_REFUSED_LENGTH);
     printf("%d for 1 user octet\n", sent(FEC, 1, 1, 0, 0));
     NAMED(ZAYTULOBE_REFUSED_COUNT);
-    printf("%d for 241 multiblocks\n", sent_multiblocks(FEC, 241));
+    printf("%d for 241 multiblocks, %d for 201 in mode 3\n", sent_multiblocks(FEC, 241), sent_multiblocks(FEC_80, 201));
     NAMED(ZAYTULOBE_REFUSED_COMMANDS);
-    printf("%d for a multiblock without a command\n", sent(FEC, 1, USER_OCTETS, 0, LANE_OCTETS));
+    printf("%d for a multiblock without a command\n", sent(FEC, 1, USER_OCTETS, 0, sizeof lane));
     NAMED(ZAYTULOBE_REFUSED_ROOM);
     printf("%d for a multiblock without room\n", sent(FEC, 1, USER_OCTETS, 1, 0));
     NAMED(ZAYTULOBE_REFUSED_CAPTURE);
@@ -231,15 +281,18 @@ int main(void) {
     run_modes();
     run_extents();
     run_user_octets();
-    for (u8 mode = CRC12; mode <= FEC; mode++) {
+    for (u8 mode = 0; mode < MODES; mode++) {
         run_lane_octets(mode);
         run_most_multiblocks(mode);
         run_commands(mode);
+        run_most_fill(mode);
+        run_block_bits(mode);
     }
     run_flag();
     run_blocks();
     run_captures();
-    run_text();
+    run_text(FEC);
+    run_text(FEC_80);
     run_refusals();
     run_statuses();
     run_phases();

@@ -14,7 +14,7 @@ _Noreturn void exit(int status);
 enum { LONGEST_LANE = 1320, LONGEST_CALL = MOST_MULTIBLOCKS + 2 };
 enum { UNTOUCHED = 0xEE };
 
-static u8 user[USER_OCTETS * LONGEST_LANE], lane[LANE_OCTETS * LONGEST_LANE];
+static u8 user[USER_OCTETS * LONGEST_LANE], lane[MOST_LANE_OCTETS * LONGEST_LANE];
 static u32 sent_commands[LONGEST_LANE];
 
 /* What the receiver is lent. */
@@ -28,7 +28,8 @@ struct releases {
 };
 
 static inline const char *name_of(u8 mode) {
-    return mode == FEC ? "FEC" : "CRC-12";
+    static const char *const names[MODES] = {"CRC-12", "FEC", "CRC-12-80", "FEC-80"};
+    return names[mode];
 }
 
 static inline void stop(const char *why) {
@@ -39,13 +40,14 @@ static inline void stop(const char *why) {
 /* The lane that a fresh sender makes of the first user octets, so many multiblocks, in the longest calls; its end state. */
 static inline struct zaytulobe_sender send_user(u8 mode, u32 e, size multiblocks) {
     struct zaytulobe_sender state = zaytulobe_fresh_sender();
+    size most = most_multiblocks(mode), octets = lane_octets(mode);
     for (size k = 0; k < multiblocks; k++)
-        sent_commands[k] = (u32)(37 * k % (ZAYTULOBE_MOST_COMMAND(mode) + 1));
-    for (size start = 0; start < multiblocks; start += MOST_MULTIBLOCKS) {
-        size left = multiblocks - start, count = left < MOST_MULTIBLOCKS ? left : MOST_MULTIBLOCKS;
+        sent_commands[k] = (u32)(37 * k % (size)(ZAYTULOBE_MOST_COMMAND(mode) + 1));
+    for (size start = 0; start < multiblocks; start += most) {
+        size left = multiblocks - start, count = left < most ? left : most;
         struct zaytulobe_sent sent = zaytulobe_send(
             mode, e, state, user + USER_OCTETS * start, USER_OCTETS * count, sent_commands + start, count,
-            lane + LANE_OCTETS * start, LANE_OCTETS * count);
+            lane + octets * start, octets * count);
         if (sent.refusal != ZAYTULOBE_ACCEPTED || sent.count != count)
             stop("the sender refused");
         state = sent.state;
@@ -68,9 +70,14 @@ static inline void flip_bit(size bit) {
     lane[bit / 8] ^= (u8)(128 >> bit % 8);
 }
 
-/* The header of a block of a multiblock gets its two bits: the first times 2, plus the second. */
-static inline void put_header(size multiblock, size block, u8 bits) {
-    size place = MULTIBLOCK_BITS * multiblock + BLOCK_BITS * block;
+/* Where the header of a block of a multiblock stands. */
+static inline size header_place(u8 mode, size multiblock, size block) {
+    return multiblock_bits(mode) * multiblock + block_bits(mode) * block;
+}
+
+/* The header gets its two bits: the first times 2, plus the second. */
+static inline void put_header(u8 mode, size multiblock, size block, u8 bits) {
+    size place = header_place(mode, multiblock, block);
     for (size k = 0; k < 2; k++)
         if (lane_bit(place + k) != (bits >> (1 - k) & 1))
             flip_bit(place + k);
@@ -79,10 +86,24 @@ static inline void put_header(size multiblock, size block, u8 bits) {
 /* Where a codeword position stands on the lane: a data bit behind its block's header; a parity bit is carried by both bits of
    a header of the next multiblock, and this is the first of them. */
 static inline size place_of(u8 mode, size multiblock, size position) {
-    size start = MULTIBLOCK_BITS * multiblock, rank = position - DATA_BITS;
+    size rank = position - DATA_BITS;
     if (position < DATA_BITS)
-        return start + BLOCK_BITS * (position / 64) + 2 + position % 64;
-    return start + MULTIBLOCK_BITS + BLOCK_BITS * (mode == FEC ? rank + (rank >= 22) : rank + rank / 3);
+        return multiblock_bits(mode) * multiblock + data_place(mode, position);
+    return header_place(mode, multiblock + 1, has_fec(mode) ? rank + (rank >= 22) : rank + rank / 3);
+}
+
+/* Flips every fill bit of so many multiblocks from one on. */
+static inline void flip_fill(u8 mode, size first, size multiblocks) {
+    for (size block = BLOCKS * first; block < BLOCKS * (first + multiblocks); block++)
+        for (size k = 0; k < 7 * gap(mode); k++)
+            flip_bit(block_bits(mode) * block + fill_place(mode, k));
+}
+
+/* The register of the fill bits after a block: 17 bits more, each 1 plus the bits 17 and 14 before it (document 02, request 2). */
+static inline u32 next_fill(u32 fill) {
+    for (int k = 0; k < 17; k++)
+        fill = (fill << 1 | (1 ^ (fill >> 16 & 1) ^ (fill >> 13 & 1))) & 0x1ffff;
+    return fill;
 }
 
 /* Flips what a codeword position carries: a data bit, or both bits of a header. */
@@ -98,7 +119,7 @@ static inline struct zaytulobe_received receive(
     u8 mode, struct zaytulobe_receiver state, size first, size count, struct releases *to, size at) {
     size room = LONGEST_CALL - at;
     return zaytulobe_receive(
-        mode, state, lane + LANE_OCTETS * first, LANE_OCTETS * count, to->octets + USER_OCTETS * at, USER_OCTETS * room,
+        mode, state, lane + lane_octets(mode) * first, lane_octets(mode) * count, to->octets + USER_OCTETS * at, USER_OCTETS * room,
         to->statuses + at, room, to->commands + at, room, to->places + at, room, to->patterns + at, room,
         to->invalid + at, room);
 }

@@ -15,42 +15,59 @@ static void print_field(const char *field, u64 highest, int of_highest, int of_n
         printf("refused %d, %s\n", of_next, given_back ? "the state given" : "ANOTHER STATE");
 }
 
+/* In mode 2, where each field has more than one value. */
 static struct zaytulobe_sent send_one(struct zaytulobe_sender state) {
     static const u32 no_command[1];
-    return zaytulobe_send(CRC12, 4, state, user, USER_OCTETS, no_command, 1, lane, LANE_OCTETS);
+    return zaytulobe_send(CRC12_80, 4, state, user, USER_OCTETS, no_command, 1, lane, lane_octets(CRC12_80));
+}
+
+/* Four octets after the last field belong to no field. */
+static int same_sender(struct zaytulobe_sender one, struct zaytulobe_sender other) {
+    return one.history == other.history && one.parity == other.parity && one.number == other.number && one.fill == other.fill;
 }
 
 static void try_sender(const char *field, u64 highest, struct zaytulobe_sender fits, struct zaytulobe_sender next) {
     int fitting = send_one(fits).refusal;
     struct zaytulobe_sent refused = send_one(next);
-    print_field(field, highest, fitting, refused.refusal, memcmp(&refused.state, &next, sizeof next) == 0);
+    print_field(field, highest, fitting, refused.refusal, same_sender(refused.state, next));
 }
 
 static void run_sender(void) {
     u64 bits58 = (1UL << 58) - 1;
-    struct zaytulobe_sender fits[3] = {{.history = bits58}, {.parity = 4095}, {.number = 3}};
-    struct zaytulobe_sender next[3] = {{.history = bits58 + 1}, {.parity = 4096}, {.number = 4}};
+    struct zaytulobe_sender fits[4] = {{.history = bits58}, {.parity = 4095}, {.number = 3}, {.fill = 131070}};
+    struct zaytulobe_sender next[4] = {{.history = bits58 + 1}, {.parity = 4096}, {.number = 4}, {.fill = 131071}};
     try_sender("sender.history", bits58, fits[0], next[0]);
-    try_sender("sender.parity, CRC-12", 4095, fits[1], next[1]);
+    try_sender("sender.parity, CRC-12-80", 4095, fits[1], next[1]);
     try_sender("sender.number, E 4", 3, fits[2], next[2]);
+    try_sender("sender.fill, CRC-12-80", 131070, fits[3], next[3]);
 }
 
-/* Each number of what comes back from sending three multiblocks is worked from the lane. */
-static void run_sent(void) {
-    struct zaytulobe_sender after = make_lane(CRC12, 4, 3);
+static u64 last_58(u8 mode, size multiblock) {
     u64 history = 0;
-    for (size bit = 3 * MULTIBLOCK_BITS - 58; bit < 3 * MULTIBLOCK_BITS; bit++)
-        history = 2 * history + lane_bit(bit);
-    send_one(after);
-    u32 parity = 0;
+    for (size position = DATA_BITS - 58; position < DATA_BITS; position++)
+        history = 2 * history + lane_bit(place_of(mode, multiblock, position));
+    return history;
+}
+
+/* Each number of what comes back from sending three multiblocks is worked from the lane, and of the register from its rule. */
+static void run_sent(u8 mode) {
+    struct zaytulobe_sender after = make_lane(mode, 4, 3);
+    u64 history = last_58(mode, 2);
+    zaytulobe_send(mode, 4, after, user, USER_OCTETS, sent_commands, 1, lane, sizeof lane);
+    u32 parity = 0, fill = 0;
     for (size block = 0; block < 16; block++)
-        parity = block % 4 == 3 ? parity : 2 * parity + lane_bit(BLOCK_BITS * block + 1);
-    printf("sent.state after 3 multiblocks: history %s, ", after.history == history ? "the last 58 bits on the lane" : "OTHERS");
-    printf("parity %s, number %u\n", after.parity == parity ? "what the next sync word carries" : "ANOTHER", after.number);
-    struct zaytulobe_sent sent = zaytulobe_send(CRC12, 4, after, user, 3 * USER_OCTETS, sent_commands, 3, lane, sizeof lane);
-    printf("sent: refusal %d, count %lu", sent.refusal, sent.count);
-    sent = zaytulobe_send(CRC12, 4, after, user, 1, sent_commands, 3, lane, sizeof lane);
-    printf("; of 1 user octet: refusal %d, count %lu\n", sent.refusal, sent.count);
+        parity = block % 4 == 3 ? parity : 2 * parity + lane_bit(header_place(mode, 0, block) + 1);
+    for (size block = 0; block < 3 * BLOCKS && gap(mode) != 0; block++)
+        fill = next_fill(fill);
+    printf("sent.state after 3 multiblocks, %s: ", name_of(mode));
+    printf("history %s, ", after.history == history ? "the last 58 bits on the lane" : "OTHERS");
+    printf("parity %s, number %u, ", after.parity == parity ? "what the next sync word carries" : "ANOTHER", after.number);
+    printf("fill %u, the register %s\n", after.fill, after.fill == fill ? "after so many blocks" : "ELSEWHERE");
+    struct zaytulobe_sent sent = zaytulobe_send(mode, 4, after, user, 3 * USER_OCTETS, sent_commands, 3, lane, sizeof lane);
+    printf("sent, %s: refusal %d, count %lu", name_of(mode), sent.refusal, sent.count);
+    sent = zaytulobe_send(mode, 4, after, user, 1, sent_commands, 3, lane, sizeof lane);
+    printf("; of 1 user octet: refusal %d, count %lu, %s\n", sent.refusal, sent.count,
+        same_sender(sent.state, after) ? "the state given" : "ANOTHER STATE");
 }
 
 static int same_receiver(struct zaytulobe_receiver one, struct zaytulobe_receiver other) {
@@ -111,29 +128,26 @@ static void run_flags_and_octets(void) {
 
 /* Each number of what comes back from receiving three multiblocks is worked from the lane; the last has three invalid headers
    that carry neither parity nor command. */
-static void run_received(void) {
-    make_lane(CRC12, 4, 3);
-    put_header(2, 19, 0);
-    put_header(2, 27, 3);
-    put_header(2, 31, 0);
-    struct zaytulobe_received received = receive(CRC12, zaytulobe_fresh_receiver(), 0, 3, &out, 0);
-    u64 history = 0;
+static void run_received(u8 mode) {
+    make_lane(mode, 4, 3);
+    put_header(mode, 2, 19, 0);
+    put_header(mode, 2, 27, 3);
+    put_header(mode, 2, 31, 0);
+    struct zaytulobe_received received = receive(mode, zaytulobe_fresh_receiver(), 0, 3, &out, 0);
     size wrong = 0, invalid = 0;
-    for (size bit = 2 * MULTIBLOCK_BITS - 58; bit < 2 * MULTIBLOCK_BITS; bit++)
-        history = 2 * history + lane_bit(bit);
     for (size position = 0; position < DATA_BITS; position++)
-        wrong += (received.state.octets[position / 8] >> (7 - position % 8) & 1) != lane_bit(place_of(CRC12, 2, position));
-    for (size bit = 2 * MULTIBLOCK_BITS; bit < 3 * MULTIBLOCK_BITS; bit += BLOCK_BITS)
-        invalid += lane_bit(bit) == lane_bit(bit + 1);
-    printf("received: refusal %d, count %lu; state: ", received.refusal, received.count);
-    printf("history %s, ", received.state.history == history ? "the last 58 bits of the released" : "OTHERS");
+        wrong += (received.state.octets[position / 8] >> (7 - position % 8) & 1) != lane_bit(place_of(mode, 2, position));
+    for (size block = 0; block < BLOCKS; block++)
+        invalid += lane_bit(header_place(mode, 2, block)) == lane_bit(header_place(mode, 2, block) + 1);
+    printf("received, %s: refusal %d, count %lu; state: ", name_of(mode), received.refusal, received.count);
+    printf("history %s, ", received.state.history == last_58(mode, 1) ? "the last 58 bits of the released" : "OTHERS");
     printf("command %u of %u sent, ", received.state.command, sent_commands[2]);
     printf("waiting %d, trusted %d, ", received.state.waiting, received.state.trusted);
     printf("octets %s, ", wrong == 0 ? "those on the lane" : "OTHERS");
     printf("invalid %d of %lu on the lane\n", received.state.invalid, invalid);
-    received = zaytulobe_receive(CRC12, zaytulobe_fresh_receiver(), lane, 1, out.octets, 0, out.statuses, 0, out.commands, 0,
+    received = zaytulobe_receive(mode, zaytulobe_fresh_receiver(), lane, 1, out.octets, 0, out.statuses, 0, out.commands, 0,
         out.places, 0, out.patterns, 0, out.invalid, 0);
-    printf("received of 1 lane octet: refusal %d, count %lu\n", received.refusal, received.count);
+    printf("received, %s, of 1 lane octet: refusal %d, count %lu\n", name_of(mode), received.refusal, received.count);
 }
 
 static void try_lock(const char *field, u64 highest, u32 e, struct zaytulobe_lock fits, struct zaytulobe_lock next) {
@@ -147,7 +161,7 @@ static void run_header_lock(void) {
     next.header.locked = 2;
     try_lock("lock.header.locked", 1, 2, fits, next);
     fits = next = holds, fits.header.offset = 65, next.header.offset = 66;
-    try_lock("lock.header.offset", 65, 2, fits, next);
+    try_lock("lock.header.offset, CRC-12", 65, 2, fits, next);
     fits = next = holds, fits.header.run = 63, next.header.run = 64;
     try_lock("lock.header.run", 63, 2, fits, next);
     fits = next = holds, fits.header.bad = 15, next.header.bad = 16;
@@ -193,10 +207,12 @@ static void run_answers(void) {
 
 int main(void) {
     run_sender();
-    run_sent();
+    run_sent(CRC12);
+    run_sent(CRC12_80);
     run_receiver();
     run_flags_and_octets();
-    run_received();
+    run_received(CRC12);
+    run_received(CRC12_80);
     run_header_lock();
     run_extended_lock();
     run_answers();

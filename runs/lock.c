@@ -1,5 +1,6 @@
 /* The locks at the edges of their tables and along lanes that the sender made: document 01, "Lock tables" and "Numbers of
-   refusal". A line says what was tried and what came out; lock.txt has the lines expected. */
+   refusal"; of offsets modulo 80 document 02, request 2. A line says what was tried and what came out; lock.txt has the lines
+   expected. */
 #include "lane.h"
 
 enum { INVALID = 0, ONE = 1, ZERO = 2, ALSO_INVALID = 3 };
@@ -15,10 +16,14 @@ static locks stepped(u8 mode, u32 e, locks state, u8 header) {
 }
 
 /* The state after one header value some times over. */
-static locks fed(locks state, u8 header, u32 count) {
+static locks fed_in(u8 mode, locks state, u8 header, u32 count) {
     for (u32 k = 0; k < count; k++)
-        state = stepped(CRC12, 1, state, header);
+        state = stepped(mode, 1, state, header);
     return state;
+}
+
+static locks fed(locks state, u8 header, u32 count) {
+    return fed_in(CRC12, state, header, count);
 }
 
 static void print_header(const char *label, locks state) {
@@ -45,6 +50,17 @@ static void run_header(void) {
     print_header("header lock, at offset 5, 64 valid headers, 16 invalid", fed(fed(fed(fresh, INVALID, 5), ONE, 64), INVALID, 16));
 }
 
+/* Only the offset goes by the width of a block. */
+static void run_header_80(u8 mode) {
+    locks fresh = zaytulobe_fresh_lock(), last = fed_in(mode, fresh, INVALID, 79);
+    printf("%s:\n", name_of(mode));
+    print_header("  header lock, fresh, 66 invalid headers", fed_in(mode, fresh, INVALID, 66));
+    print_header("  header lock, fresh, 79 invalid headers", last);
+    print_header("  header lock, fresh, 80 invalid headers", fed_in(mode, last, ALSO_INVALID, 1));
+    locks locked = fed_in(mode, last, ZERO, 64);
+    print_header("  header lock, at offset 79, 64 valid headers, 16 invalid", fed_in(mode, locked, INVALID, 16));
+}
+
 static u8 header_at(size bit) {
     return (u8)(2 * lane_bit(bit) + lane_bit(bit + 1));
 }
@@ -57,7 +73,7 @@ static int both_held(locks state) {
 static size both_after(u8 mode, u32 e, size from, size most) {
     locks state = zaytulobe_fresh_lock();
     for (size k = 0; k < most; k++) {
-        state = stepped(mode, e, state, header_at(BLOCK_BITS * (from + k)));
+        state = stepped(mode, e, state, header_at(block_bits(mode) * (from + k)));
         if (both_held(state))
             return k + 1;
     }
@@ -107,21 +123,31 @@ static void run_lanes(u32 e, const size starts[STARTS], size step) {
     run_starts(FEC, e, starts, step);
 }
 
+/* The bound is promised of CRC-12, whatever the width. */
+static void run_lanes_80(u32 e, const size starts[STARTS], size step) {
+    make_lane(CRC12_80, e, (160 * e + 95) / BLOCKS + 1);
+    printf("CRC-12-80, E %u, a lane of various octets:\n", e);
+    run_starts(CRC12_80, e, starts, step);
+}
+
 static void run_all_lanes(void) {
     static const size one[STARTS] = {0, 1, 2, 16, 31}, two[STARTS] = {0, 32, 33, 34, 63};
     static const size many[STARTS] = {0, 4096, 8096, 8097, 8098};
     run_lanes(1, one, 1);
     run_lanes(2, two, 1);
     run_lanes(256, many, 63);
+    run_lanes_80(1, one, 1);
+    run_lanes_80(2, two, 1);
+    run_lanes_80(256, many, 63);
 }
 
 /* The header is read where the offset says: an invalid one moves it on. */
 static void run_slips(u8 mode, size from) {
     locks state = zaytulobe_fresh_lock();
-    size blocks = 0;
-    make_lane(mode, 1, MOST_MULTIBLOCKS);
-    for (; !state.header.locked && blocks < 7000; blocks++)
-        state = stepped(mode, 1, state, header_at(from + state.header.offset + BLOCK_BITS * blocks));
+    size blocks = 0, most = BLOCKS * most_multiblocks(mode) - 2;
+    make_lane(mode, 1, most_multiblocks(mode));
+    for (; !state.header.locked && blocks < most; blocks++)
+        state = stepped(mode, 1, state, header_at(from + state.header.offset + block_bits(mode) * blocks));
     printf("%s, a lane read from its bit %lu on: header lock %s, offset %u\n", name_of(mode), from,
         state.header.locked ? "held" : "NOT HELD", state.header.offset);
 }
@@ -178,10 +204,13 @@ static void try_step(const char *label, u8 mode, u32 e, locks state, u8 header) 
 }
 
 static void run_calls(void) {
-    locks fresh = zaytulobe_fresh_lock(), broken = {.header = {.offset = 66}};
+    locks fresh = zaytulobe_fresh_lock(), broken = {.header = {.offset = 66}}, broken_80 = {.header = {.offset = 80}};
     try_step("mode 0", 0, 1, fresh, 1);
     try_step("mode 1", 1, 1, fresh, 1);
     try_step("mode 2", 2, 1, fresh, 1);
+    try_step("mode 3", 3, 1, fresh, 1);
+    try_step("mode 4", 4, 1, fresh, 1);
+    try_step("mode 255", 255, 1, fresh, 1);
     try_step("E 0", 0, 0, fresh, 1);
     try_step("E 1", 0, 1, fresh, 1);
     try_step("E 256", 0, 256, fresh, 1);
@@ -190,10 +219,32 @@ static void run_calls(void) {
     try_step("header 3", 0, 1, fresh, 3);
     try_step("header 4", 0, 1, fresh, 4);
     try_step("header 255", 0, 1, fresh, 255);
-    try_step("mode 2 and E 0", 2, 0, fresh, 1);
+    try_step("mode 4 and E 0", 4, 0, fresh, 1);
     try_step("E 0 and offset 66", 0, 0, broken, 1);
     try_step("offset 66 and header 4", 0, 1, broken, 4);
-    try_step("mode 2, E 0, offset 66 and header 4", 2, 0, broken, 4);
+    try_step("mode 4, E 0, offset 66 and header 4", 4, 0, broken, 4);
+    try_step("mode 2, offset 66 and header 4", 2, 1, broken, 4);
+    try_step("mode 2, offset 80 and header 4", 2, 1, broken_80, 4);
+    try_step("mode 2, E 0 and offset 80", 2, 0, broken_80, 1);
+}
+
+/* Offsets at the edge of each width, in each mode. */
+static void try_offset(u32 locked, u32 offset) {
+    locks state = {.header = {.locked = locked, .offset = offset}};
+    printf("header lock %s, offset %u:", locked ? "locked" : "hunting", offset);
+    for (u8 mode = 0; mode < MODES; mode++) {
+        int refusal = zaytulobe_lock_step(mode, 1, state, 1).refusal;
+        printf("%s %s ", mode == CRC12 ? "" : ",", name_of(mode));
+        printf(refusal == ZAYTULOBE_ACCEPTED ? "accepted" : "refused %d", refusal);
+    }
+    printf("\n");
+}
+
+static void run_offsets(void) {
+    static const u32 offsets[4] = {65, 66, 79, 80};
+    for (u32 locked = 0; locked < 2; locked++)
+        for (int k = 0; k < 4; k++)
+            try_offset(locked, offsets[k]);
 }
 
 static void try_header(const char *label, u32 locked, u32 offset, u32 run, u32 bad) {
@@ -276,12 +327,18 @@ static void run_locked_states(void) {
 
 int main(void) {
     run_header();
+    run_header_80(CRC12_80);
+    run_header_80(FEC_80);
     run_slips(CRC12, 0);
     run_slips(CRC12, 1);
     run_slips(FEC, 40);
+    run_slips(CRC12_80, 0);
+    run_slips(CRC12_80, 1);
+    run_slips(FEC_80, 41);
     run_all_lanes();
     run_extended();
     run_calls();
+    run_offsets();
     run_header_states();
     run_hunting_states();
     run_following_states();

@@ -1,26 +1,40 @@
 /* What the link promises after hits on a lane holds where its premise does, and each clause of the premise is needed.
    The promise, for a fresh receiver at a multiblock boundary of a lane that the sender made, in that lane's mode; bits are
-   flipped, none gained or lost, in bursts of at most 9 consecutive lane bits with FEC or 12 with CRC-12, at least 4,224 clear
-   bits between bursts. FEC: the octets of every released multiblock after the first are those sent. CRC-12: every multiblock
-   whose data were hit has status 2 or 6; every sound octet is the one sent; a released multiblock but the first has status 0
-   if it and both its neighbours were untouched.
+   flipped, none gained or lost, in bursts of at most 9 consecutive lane bits with FEC or 12 with CRC-12, with two multiblocks of
+   clear bits or more between bursts: 4,224, or 5,120 in modes 2 and 3. FEC: the octets of every released multiblock after the
+   first are those sent. CRC-12: every multiblock whose data were hit has status 2 or 6; every sound octet is the one sent; a
+   released multiblock but the first has status 0 if it and both its neighbours were untouched.
    Statuses and sound octets: document 01, "What the receiver releases". Lane bits and multiblocks are counted from where the
    receiver starts, in the middle of a lane; premise.txt has the lines expected. */
 #include "lane.h"
 
-enum { E = 2, BEFORE = 5, COUNT = 20, BITS = MULTIBLOCK_BITS * COUNT, CLEAR_BITS = 4224 };
+enum { E = 2, BEFORE = 5, COUNT = 20 };
 
 static struct releases out;
-static u8 flipped[BITS];
+static u8 lanes_mode, flipped[8 * MOST_LANE_OCTETS * COUNT];
 static size released;
 
+/* Of the lane that was begun: the bits of a block, those of a multiblock, and all that the receiver gets. */
+static size per_block(void) {
+    return block_bits(lanes_mode);
+}
+
+static size per_multiblock(void) {
+    return multiblock_bits(lanes_mode);
+}
+
+static size all_bits(void) {
+    return COUNT * per_multiblock();
+}
+
 static void begin(u8 mode) {
+    lanes_mode = mode;
     make_lane(mode, E, BEFORE + COUNT);
     memset(flipped, 0, sizeof flipped);
 }
 
 static void hit(size bit) {
-    flip_bit(MULTIBLOCK_BITS * BEFORE + bit);
+    flip_bit(per_multiblock() * BEFORE + bit);
     flipped[bit] ^= 1;
 }
 
@@ -38,11 +52,11 @@ static void end(u8 mode) {
 
 /* Whether the flips are bursts as the premise has them: flips with fewer clear bits between are one burst. */
 static int within_premise(u8 mode) {
-    size first = BITS, last = BITS, most = mode == FEC ? 9 : 12;
-    for (size bit = 0; bit < BITS; bit++) {
+    size end = all_bits(), first = end, last = end, most = has_fec(mode) ? 9 : 12;
+    for (size bit = 0; bit < end; bit++) {
         if (!flipped[bit])
             continue;
-        if (last == BITS || bit - last > CLEAR_BITS)
+        if (last == end || bit - last > 2 * per_multiblock())
             first = bit;
         last = bit;
         if (last - first >= most)
@@ -54,9 +68,9 @@ static int within_premise(u8 mode) {
 static void print_flips(u8 mode) {
     const char *before = " ";
     printf("%s, lane bits flipped:", name_of(mode));
-    for (size bit = 0; bit < BITS; bit++) {
+    for (size bit = 0; bit < all_bits(); bit++) {
         size first = bit;
-        while (bit < BITS && flipped[bit])
+        while (bit < all_bits() && flipped[bit])
             bit++;
         if (bit > first)
             print_span(before, first, bit - 1), before = ", ";
@@ -81,11 +95,9 @@ static int touched(size first, size last) {
 }
 
 static int touched_data(size multiblock) {
-    for (size block = 0; block < BLOCKS; block++) {
-        size start = MULTIBLOCK_BITS * multiblock + BLOCK_BITS * block;
-        if (touched(start + 2, start + BLOCK_BITS))
+    for (size position = 0; position < DATA_BITS; position++)
+        if (flipped[place_of(lanes_mode, multiblock, position)])
             return 1;
-    }
     return 0;
 }
 
@@ -115,7 +127,7 @@ static void print_promise_fec(void) {
 static void print_promise_crc12(void) {
     size hits = 0, failed = 0, wrong = 0, clear = 0, agree = 0;
     for (size k = 0; k < released; k++) {
-        int was_hit = touched_data(k), was_clear = k > 0 && !touched(MULTIBLOCK_BITS * (k - 1), MULTIBLOCK_BITS * (k + 2));
+        int was_hit = touched_data(k), was_clear = k > 0 && !touched(per_multiblock() * (k - 1), per_multiblock() * (k + 2));
         hits += was_hit;
         failed += was_hit && is_failed(k);
         wrong += wrong_octets(k, 1);
@@ -132,28 +144,29 @@ static size header_carrying(u8 mode, size multiblock, int carried) {
     size position = DATA_BITS + 4;
     for (;; position++) {
         size bit = place_of(mode, multiblock, position);
-        if (lane_bit(MULTIBLOCK_BITS * BEFORE + bit) != carried)
+        if (lane_bit(per_multiblock() * BEFORE + bit) != carried)
             return bit;
     }
 }
 
-/* Bursts at the lane's start; 4,224 clear bits later; over a header; over a multiblock's edge; at the first bit of a header
-   that carries 0 and of one that carries 1, which makes them invalid; with its ends alone; at the lane's end. */
+/* Bursts at the lane's start; two multiblocks of clear bits later; over a header; over a multiblock's edge; at the first bit of a
+   header that carries 0 and of one that carries 1, which makes them invalid; with its ends alone, where there are fill bits the
+   first of them in a gap; at the lane's end. */
 static void run_example(u8 mode, const char *full, const char *ends) {
-    size bits = mode == FEC ? 9 : 12;
+    size bits = has_fec(mode) ? 9 : 12;
     begin(mode);
     hit_burst(0, full);
-    hit_burst(bits + CLEAR_BITS, full);
-    hit_burst(MULTIBLOCK_BITS * 4 + BLOCK_BITS * 5 - 4, full);
-    hit_burst(MULTIBLOCK_BITS * 7 - 5, full);
+    hit_burst(bits + 2 * per_multiblock(), full);
+    hit_burst(per_multiblock() * 4 + per_block() * 5 - 4, full);
+    hit_burst(per_multiblock() * 7 - 5, full);
     hit(header_carrying(mode, 11, 0));
     hit(header_carrying(mode, 14, 1));
-    hit_burst(MULTIBLOCK_BITS * 17 + BLOCK_BITS * 31 + 10, ends);
-    hit_burst(BITS - bits, full);
+    hit_burst(per_multiblock() * 17 + per_block() * 31 + 10, ends);
+    hit_burst(all_bits() - bits, full);
     end(mode);
     print_flips(mode);
     print_multiblocks(0, COUNT);
-    if (mode == FEC)
+    if (has_fec(mode))
         print_promise_fec();
     else
         print_promise_crc12();
@@ -179,6 +192,25 @@ static void run_long_bursts(void) {
     tell("At most 12 bits is needed with CRC-12: a burst of 13 goes unnoticed, if it is the polynomial.", CRC12, 5, 6);
 }
 
+/* With fill bits a burst on the lane is a shorter one in the codeword: of ten lane bits in a row two are of a header or a gap. */
+static void run_long_bursts_80(void) {
+    static const char polynomial[] = "1001100001111";
+    begin(FEC_80);
+    hit_burst(place_of(FEC_80, 5, 200), "1111111111");
+    tell("A burst of 10 is mended with FEC-80, since two of its bits are fill bits.", FEC_80, 5, 6);
+    begin(FEC_80);
+    hit_burst(place_of(FEC_80, 5, 207), "11111111111");
+    tell("A burst of 11 is mended with FEC-80, since two of its bits are fill bits.", FEC_80, 5, 6);
+    begin(FEC_80);
+    hit_burst(place_of(FEC_80, 5, 206), "111111111111");
+    tell("A burst of 12 is not mended with FEC-80, if ten of its bits are data.", FEC_80, 5, 6);
+    begin(CRC12_80);
+    for (size k = 0; polynomial[k] != 0; k++)
+        if (polynomial[k] == '1')
+            hit(place_of(CRC12_80, 5, 200 + k));
+    tell("A burst of 15 goes unnoticed with CRC-12-80, if it is the polynomial without the fill bits.", CRC12_80, 5, 6);
+}
+
 /* The flips of 12 bits that make up for one flip so many positions before the last of them: the power of x modulo the
    polynomial of CRC-12. */
 static u32 made_up(size power) {
@@ -188,52 +220,87 @@ static u32 made_up(size power) {
     return remainder;
 }
 
-static void run_close_bursts(void) {
-    begin(FEC);
-    hit(place_of(FEC, 5, 0));
-    hit(place_of(FEC, 5, 10));
-    tell("Clear bits are needed with FEC: two flips with 9 clear bits between are taken for another burst.", FEC, 5, 6);
-    begin(FEC);
-    hit_burst(place_of(FEC, 5, 0), "111111111");
-    hit_burst(place_of(FEC, 5, 1950), "111111111");
-    tell("Clear bits are needed with FEC: two bursts with 2,001 clear bits between are not mended.", FEC, 5, 6);
-    begin(FEC);
-    hit(place_of(FEC, 5, 0));
-    hit_burst(place_of(FEC, 5, 2073), "11");
-    tell("Clear bits are needed with FEC: two bursts with 3,825 clear bits between are not mended.", FEC, 5, 6);
-    begin(CRC12);
-    hit(place_of(CRC12, 5, 0));
+/* What came of multiblocks 5 and 6 after two hits, with the clear bits between the first burst, of so many bits, and the next. */
+static void tell_close(u8 mode, const char *hits, size bits, const char *outcome) {
+    size first = 0, next;
+    while (!flipped[first])
+        first++;
+    for (next = first + bits; !flipped[next];)
+        next++;
+    size clear = next - first - bits;
+    end(mode);
+    printf("Clear bits are needed with %s: two %s with ", name_of(mode), hits);
+    if (clear >= 1000)
+        printf("%lu,", clear / 1000);
+    printf(clear >= 1000 ? "%03lu" : "%lu", clear % 1000);
+    printf(" clear bits between %s.\n  ", outcome);
+    print_flips(mode);
+    print_multiblocks(5, 6);
+}
+
+static void run_close_bursts(u8 crc12, u8 fec) {
+    begin(fec);
+    hit(place_of(fec, 5, 0));
+    hit(place_of(fec, 5, 10));
+    tell_close(fec, "flips", 1, "are taken for another burst");
+    begin(fec);
+    hit_burst(place_of(fec, 5, 0), "111111111");
+    hit_burst(place_of(fec, 5, 1950), "111111111");
+    tell_close(fec, "bursts", 9, "are not mended");
+    begin(fec);
+    hit(place_of(fec, 5, 0));
+    hit_burst(place_of(fec, 5, 2073), "11");
+    tell_close(fec, "bursts", 1, "are not mended");
+    begin(crc12);
+    hit(place_of(crc12, 5, 0));
     for (size k = 0; k < 12; k++)
         if (made_up(2011) >> (11 - k) & 1)
-            hit(place_of(CRC12, 5, 2000 + k));
-    tell("Clear bits are needed with CRC-12: two bursts with 2,062 clear bits between go unnoticed.", CRC12, 5, 6);
+            hit(place_of(crc12, 5, 2000 + k));
+    tell_close(crc12, "bursts", 1, "go unnoticed");
 }
 
-static void run_first(void) {
-    begin(FEC);
-    tell("After the first is needed with FEC: the history before the first is unknown.", FEC, 0, 1);
-    begin(CRC12);
-    tell("Octets 0 to 7 of the first are not sound with CRC-12: the history before it is unknown.", CRC12, 0, 1);
+static void run_first(u8 crc12, u8 fec) {
+    begin(fec);
+    tell("After the first is needed with FEC: the history before the first is unknown.", fec, 0, 1);
+    begin(crc12);
+    tell("Octets 0 to 7 of the first are not sound with CRC-12: the history before it is unknown.", crc12, 0, 1);
 }
 
-static void run_neighbours(void) {
-    begin(CRC12);
-    hit(place_of(CRC12, 5, 2047));
-    tell("Octet 7 after a failed multiblock is not sound with CRC-12, although its own parity agrees.", CRC12, 5, 6);
-    begin(CRC12);
-    hit(place_of(CRC12, 5, 100));
-    tell("Both neighbours are needed with CRC-12: after a hit in the one before, multiblock 6 is not trusted.", CRC12, 6, 6);
-    begin(CRC12);
-    hit_burst(place_of(CRC12, 6, 2048), "11");
-    tell("Both neighbours are needed with CRC-12: the headers of the one after carry the parity of multiblock 6.", CRC12, 6, 6);
-    begin(CRC12);
-    hit(place_of(CRC12, 7, 100));
-    tell("Data of the one after don't matter.", CRC12, 6, 6);
+static void run_neighbours(u8 crc12) {
+    begin(crc12);
+    hit(place_of(crc12, 5, 2047));
+    tell("Octet 7 after a failed multiblock is not sound with CRC-12, although its own parity agrees.", crc12, 5, 6);
+    begin(crc12);
+    hit(place_of(crc12, 5, 100));
+    tell("Both neighbours are needed with CRC-12: after a hit in the one before, multiblock 6 is not trusted.", crc12, 6, 6);
+    begin(crc12);
+    hit_burst(place_of(crc12, 6, 2048), "11");
+    tell("Both neighbours are needed with CRC-12: the headers of the one after carry the parity of multiblock 6.", crc12, 6, 6);
+    begin(crc12);
+    hit(place_of(crc12, 7, 100));
+    tell("Data of the one after don't matter.", crc12, 6, 6);
+}
+
+/* How many multiblocks are released as they are without a hit, after every fill bit was flipped. */
+static void run_fill(u8 mode) {
+    static struct releases clean;
+    size same = 0;
+    begin(mode);
+    end(mode);
+    clean = out;
+    flip_fill(mode, BEFORE, COUNT);
+    end(mode);
+    for (size k = 0; k < released; k++)
+        same += memcmp(clean.octets + USER_OCTETS * k, out.octets + USER_OCTETS * k, USER_OCTETS) == 0
+            && clean.statuses[k] == out.statuses[k] && clean.commands[k] == out.commands[k];
+    printf("No premise is needed of fill bits: all of them are flipped.\n");
+    printf("  %s, fill bits flipped: %lu, of %lu released as without a hit: %lu\n", name_of(mode), 7 * gap(mode) * BLOCKS * COUNT,
+        released, same);
 }
 
 static void lose_bit(size lost) {
-    size start = MULTIBLOCK_BITS * BEFORE;
-    for (size bit = start + lost; bit + 1 < start + BITS; bit++)
+    size start = per_multiblock() * BEFORE;
+    for (size bit = start + lost; bit + 1 < start + all_bits(); bit++)
         if (lane_bit(bit) != lane_bit(bit + 1))
             flip_bit(bit);
 }
@@ -251,15 +318,15 @@ static void print_statuses(const char *label, u8 mode, size first) {
 
 static void run_other_clauses(u8 mode) {
     begin(mode);
-    lose_bit(MULTIBLOCK_BITS * 5 + 1000);
+    lose_bit(per_multiblock() * 5 + 1000);
     end(mode);
     print_statuses("No bit gained or lost is needed: bit 1,000 of multiblock 5 is lost.", mode, 5);
     begin(mode);
-    for (size k = 0; k < BLOCK_BITS; k++)
+    for (size k = 0; k < per_block(); k++)
         lose_bit(0);
     end(mode);
     print_statuses("A multiblock boundary is needed: the receiver starts a block late.", mode, 0);
-    begin(mode == FEC ? CRC12 : FEC);
+    begin(has_fec(mode) ? mode - 1 : mode + 1);
     hit(place_of(mode, 5, 100));
     end(mode);
     print_statuses("The lane's mode is needed: the lane is of the other mode, and a data bit of multiblock 5 is flipped.", mode, 1);
@@ -278,12 +345,22 @@ static void run_trusting(void) {
 int main(void) {
     run_example(FEC, "111111111", "100000001");
     run_example(CRC12, "111111111111", "100000000001");
+    run_example(FEC_80, "111111111", "100000001");
+    run_example(CRC12_80, "111111111111", "100000000001");
     run_long_bursts();
-    run_close_bursts();
-    run_first();
-    run_neighbours();
+    run_long_bursts_80();
+    run_close_bursts(CRC12, FEC);
+    run_close_bursts(CRC12_80, FEC_80);
+    run_first(CRC12, FEC);
+    run_first(CRC12_80, FEC_80);
+    run_neighbours(CRC12);
+    run_neighbours(CRC12_80);
     run_other_clauses(FEC);
     run_other_clauses(CRC12);
+    run_other_clauses(FEC_80);
+    run_other_clauses(CRC12_80);
+    run_fill(FEC_80);
+    run_fill(CRC12_80);
     run_trusting();
     return 0;
 }

@@ -1,7 +1,9 @@
 /* The receiver at its edges, and the longest run: document 01, "What the receiver releases", "Numbers of refusal" and the
-   last lines of "The dozen to prove"; of invalid headers document 02, request 1. A line says what was tried and what came out
-   (place and pattern where not both are 0); receiver.txt has the lines expected. */
+   last lines of "The dozen to prove"; of invalid headers document 02, request 1, and of fill bits request 2. A line says what was
+   tried and what came out (place and pattern where not both are 0); receiver.txt has the lines expected. */
 #include "lane.h"
+
+int snprintf(char *text, size room, const char *format, ...);
 
 static struct releases out, parts;
 
@@ -19,31 +21,31 @@ static void try_flips(u8 mode, const char *label, size first, size count, size s
     printf("\n");
 }
 
-static void run_bursts_fec(void) {
-    printf("FEC, a multiblock with flips at positions of its codeword:\n");
-    try_flips(FEC, "none", 0, 0, 1);
-    try_flips(FEC, "0 to 8", 0, 9, 1);
-    try_flips(FEC, "2065 to 2073, all parity", 2065, 9, 1);
-    try_flips(FEC, "0 and 8", 0, 2, 8);
-    try_flips(FEC, "2065 and 2073, both parity", 2065, 2, 8);
-    try_flips(FEC, "0 to 9", 0, 10, 1);
-    try_flips(FEC, "2064 to 2073, all parity", 2064, 10, 1);
-    try_flips(FEC, "0 and 9", 0, 2, 9);
-    try_flips(FEC, "2064 and 2073, both parity", 2064, 2, 9);
-    try_flips(FEC, "2047, the last of the data", 2047, 1, 1);
-    try_flips(FEC, "2048, the first of the parity", 2048, 1, 1);
-    try_flips(FEC, "2044 to 2052, data and parity", 2044, 9, 1);
-    try_flips(FEC, "0 and 2073, since no burst wraps", 0, 2, 2073);
+static void run_bursts_fec(u8 mode) {
+    printf("%s, a multiblock with flips at positions of its codeword:\n", name_of(mode));
+    try_flips(mode, "none", 0, 0, 1);
+    try_flips(mode, "0 to 8", 0, 9, 1);
+    try_flips(mode, "2065 to 2073, all parity", 2065, 9, 1);
+    try_flips(mode, "0 and 8", 0, 2, 8);
+    try_flips(mode, "2065 and 2073, both parity", 2065, 2, 8);
+    try_flips(mode, "0 to 9", 0, 10, 1);
+    try_flips(mode, "2064 to 2073, all parity", 2064, 10, 1);
+    try_flips(mode, "0 and 9", 0, 2, 9);
+    try_flips(mode, "2064 and 2073, both parity", 2064, 2, 9);
+    try_flips(mode, "2047, the last of the data", 2047, 1, 1);
+    try_flips(mode, "2048, the first of the parity", 2048, 1, 1);
+    try_flips(mode, "2044 to 2052, data and parity", 2044, 9, 1);
+    try_flips(mode, "0 and 2073, since no burst wraps", 0, 2, 2073);
 }
 
-static void run_bursts_crc12(void) {
-    printf("CRC-12, a multiblock with flips at positions of its codeword:\n");
-    try_flips(CRC12, "none", 0, 0, 1);
-    try_flips(CRC12, "0 to 8", 0, 9, 1);
-    try_flips(CRC12, "2051 to 2059, all parity", 2051, 9, 1);
-    try_flips(CRC12, "0 to 9", 0, 10, 1);
-    try_flips(CRC12, "2050 to 2059, all parity", 2050, 10, 1);
-    try_flips(CRC12, "2047, the last of the data", 2047, 1, 1);
+static void run_bursts_crc12(u8 mode) {
+    printf("%s, a multiblock with flips at positions of its codeword:\n", name_of(mode));
+    try_flips(mode, "none", 0, 0, 1);
+    try_flips(mode, "0 to 8", 0, 9, 1);
+    try_flips(mode, "2051 to 2059, all parity", 2051, 9, 1);
+    try_flips(mode, "0 to 9", 0, 10, 1);
+    try_flips(mode, "2050 to 2059, all parity", 2050, 10, 1);
+    try_flips(mode, "2047, the last of the data", 2047, 1, 1);
 }
 
 static int same_state(struct zaytulobe_receiver one, struct zaytulobe_receiver other) {
@@ -62,8 +64,9 @@ struct call {
 /* So many multiblocks, with just enough room: from the lane's start, or from its multiblock 1 on if one waits. */
 static struct call call_of(u8 mode, struct zaytulobe_receiver state, size multiblocks) {
     size count = state.waiting ? multiblocks : multiblocks ? multiblocks - 1 : 0;
-    const u8 *from = state.waiting ? lane + LANE_OCTETS : lane;
-    struct call call = {mode, state, from, LANE_OCTETS * multiblocks, USER_OCTETS * count, count, count, count, count, count};
+    const u8 *from = state.waiting ? lane + lane_octets(mode) : lane;
+    struct call call = {
+        mode, state, from, lane_octets(mode) * multiblocks, USER_OCTETS * count, count, count, count, count, count};
     return call;
 }
 
@@ -108,23 +111,31 @@ static void print_invalid(const struct releases *from, size count) {
         printf(" %d", from->invalid[k]);
 }
 
+static struct zaytulobe_receiver try_count(u8 mode, struct zaytulobe_receiver state, size multiblocks) {
+    char label[64];
+    snprintf(label, sizeof label, "%lu multiblock%s, %s", multiblocks, multiblocks == 1 ? "" : "s",
+        state.waiting ? "one waiting" : "fresh");
+    return try_call(label, call_of(mode, state, multiblocks));
+}
+
 static void run_counts(u8 mode) {
     struct zaytulobe_receiver fresh = zaytulobe_fresh_receiver();
-    make_lane(mode, 7, 242);
+    size most = most_multiblocks(mode);
+    make_lane(mode, 7, most + 2);
     printf("%s, a clean lane:\n", name_of(mode));
-    try_call("0 multiblocks, fresh", call_of(mode, fresh, 0));
-    struct zaytulobe_receiver waiting = try_call("1 multiblock, fresh", call_of(mode, fresh, 1));
-    try_call("2 multiblocks, fresh", call_of(mode, fresh, 2));
+    try_count(mode, fresh, 0);
+    struct zaytulobe_receiver waiting = try_count(mode, fresh, 1);
+    try_count(mode, fresh, 2);
     print_clean(1);
-    try_call("240 multiblocks, fresh", call_of(mode, fresh, 240));
-    print_clean(239);
-    try_call("241 multiblocks, fresh", call_of(mode, fresh, 241));
-    try_call("0 multiblocks, one waiting", call_of(mode, waiting, 0));
-    try_call("1 multiblock, one waiting", call_of(mode, waiting, 1));
+    try_count(mode, fresh, most);
+    print_clean(most - 1);
+    try_count(mode, fresh, most + 1);
+    try_count(mode, waiting, 0);
+    try_count(mode, waiting, 1);
     print_clean(1);
-    try_call("240 multiblocks, one waiting", call_of(mode, waiting, 240));
-    print_clean(240);
-    try_call("241 multiblocks, one waiting", call_of(mode, waiting, 241));
+    try_count(mode, waiting, most);
+    print_clean(most);
+    try_count(mode, waiting, most + 1);
 }
 
 static void run_modes(void) {
@@ -132,6 +143,8 @@ static void run_modes(void) {
     try_call("mode 0", call_of(0, fresh, 2));
     try_call("mode 1", call_of(1, fresh, 2));
     try_call("mode 2", call_of(2, fresh, 2));
+    try_call("mode 3", call_of(3, fresh, 2));
+    try_call("mode 4", call_of(4, fresh, 2));
     try_call("mode 255", call_of(255, fresh, 2));
 }
 
@@ -158,6 +171,12 @@ static void run_waiting_states(void) {
     try_waiting("FEC, one waiting, command 1", FEC, 0, 1, 1);
     try_waiting("FEC, one waiting, command 128", FEC, 0, 128, 1);
     try_waiting("FEC, one waiting, trust given as 2", FEC, 0, 0, 2);
+    try_waiting("CRC-12-80, one waiting, history 2^58 - 1", CRC12_80, most, 0, 0);
+    try_waiting("CRC-12-80, one waiting, history 2^58", CRC12_80, most + 1, 0, 0);
+    try_waiting("CRC-12-80, one waiting, command 255", CRC12_80, 0, 255, 1);
+    try_waiting("CRC-12-80, one waiting, command 256", CRC12_80, 0, 256, 1);
+    try_waiting("FEC-80, one waiting, command 0", FEC_80, 0, 0, 1);
+    try_waiting("FEC-80, one waiting, command 1", FEC_80, 0, 1, 1);
 }
 
 /* A state with one waiting that had so many invalid headers, and the multiblock after it. */
@@ -174,6 +193,8 @@ static void run_invalid_states(void) {
     try_call("CRC-12, one waiting, 255 invalid headers", with_invalid(CRC12, 255));
     try_call("FEC, one waiting, 32 invalid headers", with_invalid(FEC, 32));
     try_call("FEC, one waiting, 33 invalid headers", with_invalid(FEC, 33));
+    try_call("FEC-80, one waiting, 32 invalid headers", with_invalid(FEC_80, 32));
+    try_call("FEC-80, one waiting, 33 invalid headers", with_invalid(FEC_80, 33));
     try_call("CRC-12, one waiting, command 128 and no invalid header", call_of(CRC12, marked, 1));
     try_call("nothing waiting, 1 invalid header", call_of(CRC12, empty, 1));
     try_call("nothing waiting, 1 invalid header, no lane octets", call_of(CRC12, empty, 0));
@@ -192,16 +213,17 @@ static void run_empty_states(void) {
     try_call("waiting given as 2", call_of(CRC12, flag, 1));
 }
 
-static void run_lengths(void) {
-    struct call call = call_of(FEC, zaytulobe_fresh_receiver(), 2);
-    call.lane = 263;
-    try_call("263 lane octets", call);
-    call.lane = 264;
-    try_call("264 lane octets", call);
-    call.lane = 265;
-    try_call("265 lane octets", call);
-    call.lane = 1;
-    try_call("1 lane octet", call);
+/* Of the octets of one multiblock, and of as many as a call takes, one less and one more. */
+static void run_lengths(u8 mode) {
+    size one = lane_octets(mode), most = one * most_multiblocks(mode);
+    size lengths[8] = {1, one - 1, one, one + 1, most - 1, most, most + 1, most + one};
+    struct call call = call_of(mode, zaytulobe_fresh_receiver(), most_multiblocks(mode) + 1);
+    for (int k = 0; k < 8; k++) {
+        char label[64];
+        snprintf(label, sizeof label, "%s, %lu lane octet%s", name_of(mode), lengths[k], lengths[k] == 1 ? "" : "s");
+        call.lane = lengths[k];
+        try_call(label, call);
+    }
 }
 
 static void run_room(void) {
@@ -231,9 +253,10 @@ static void run_room(void) {
 static void run_room_for_invalid(void) {
     struct zaytulobe_receiver state = {.waiting = 1, .invalid = 5};
     struct call call = call_of(FEC, state, 2);
-    put_header(1, 27, 3);
-    put_header(2, 27, 0);
-    put_header(2, 28, 3);
+    make_lane(FEC, 7, 3);
+    put_header(FEC, 1, 27, 3);
+    put_header(FEC, 2, 27, 0);
+    put_header(FEC, 2, 28, 3);
     call.invalid -= 1;
     state = try_call("2 multiblocks, one waiting with 5 invalid headers, room for 1 number of them", call);
     printf("  waiting with %d\n", state.invalid);
@@ -247,8 +270,8 @@ static void run_room_for_invalid(void) {
 /* The lower number of two that apply. */
 static void run_two_at_once(void) {
     struct zaytulobe_receiver fresh = zaytulobe_fresh_receiver(), broken = {.history = 1};
-    struct call call = call_of(2, broken, 1);
-    try_call("mode 2 and a broken state", call);
+    struct call call = call_of(4, broken, 1);
+    try_call("mode 4 and a broken state", call);
     call = call_of(FEC, broken, 1), call.lane = 263;
     try_call("a broken state and 263 lane octets", call);
     call = call_of(FEC, fresh, 241), call.lane += 1;
@@ -257,8 +280,16 @@ static void run_two_at_once(void) {
     try_call("241 multiblocks and no room for octets", call);
     call = call_of(FEC, fresh, 2), call.lane += 1, call.statuses = 0;
     try_call("a lane of one octet more than 2 multiblocks and no room for statuses", call);
-    call = call_of(2, broken, 241), call.lane += 1, call.octets = 0;
+    call = call_of(4, broken, 241), call.lane += 1, call.octets = 0;
     try_call("all five", call);
+    call = call_of(FEC_80, broken, 1), call.lane = 264;
+    try_call("FEC-80, a broken state and 264 lane octets", call);
+    call = call_of(FEC_80, fresh, 201), call.lane += 1;
+    try_call("FEC-80, a lane of one octet more than 201 multiblocks", call);
+    call = call_of(FEC_80, fresh, 201), call.octets = 0;
+    try_call("FEC-80, 201 multiblocks and no room for octets", call);
+    call = call_of(FEC_80, fresh, 33), call.lane = 264 * 40;
+    try_call("FEC-80, the 10,560 lane octets of 40 multiblocks of 66-bit blocks", call);
 }
 
 /* A lane with a burst that is mended or found, one that isn't, an invalid header in a command and one elsewhere. */
@@ -270,8 +301,8 @@ static void make_damaged(u8 mode, size multiblocks) {
         flip_position(mode, 3, 2039 + k);
     flip_position(mode, 4, 100);
     flip_position(mode, 4, 1900);
-    flip_bit(MULTIBLOCK_BITS * 5 + BLOCK_BITS * 17);
-    flip_bit(MULTIBLOCK_BITS * 6 + BLOCK_BITS * 31);
+    flip_bit(header_place(mode, 5, 17));
+    flip_bit(header_place(mode, 6, 31));
 }
 
 static void run_cuts(u8 mode, size multiblocks) {
@@ -302,12 +333,12 @@ static void run_cuts(u8 mode, size multiblocks) {
 static void make_garbled(u8 mode, size multiblocks) {
     make_lane(mode, 3, multiblocks);
     for (size block = 0; block < BLOCKS; block++) {
-        put_header(1, block, 0);
-        put_header(2, block, 3);
+        put_header(mode, 1, block, 0);
+        put_header(mode, 2, block, 3);
     }
-    put_header(4, 0, 0);
-    put_header(4, 31, 3);
-    put_header(5, 9, 3);
+    put_header(mode, 4, 0, 0);
+    put_header(mode, 4, 31, 3);
+    put_header(mode, 5, 9, 3);
 }
 
 /* The numbers of all that are released, from one call and from two; between the two the state has that of the waiting one. */
@@ -324,6 +355,51 @@ static void run_invalid(u8 mode, size multiblocks) {
         print_invalid(&parts, head.count + tail.count);
         printf(", waiting with %d\n", tail.state.invalid);
     }
+}
+
+/* Whether the damaged lane, as it stands now, is received as it was when `out` and the state were made. */
+static int received_as(u8 mode, size multiblocks, const struct zaytulobe_receiver *state) {
+    memset(&parts, UNTOUCHED, sizeof parts);
+    struct zaytulobe_received again = receive(mode, zaytulobe_fresh_receiver(), 0, multiblocks, &parts, 0);
+    return memcmp(&out, &parts, sizeof out) == 0 && same_state(*state, again.state);
+}
+
+/* The fill bits of the whole lane become 0, or 1. */
+static void put_fill(u8 mode, size multiblocks, u8 value) {
+    for (size block = 0; block < BLOCKS * multiblocks; block++)
+        for (size k = 0; k < 7 * gap(mode); k++) {
+            size place = block_bits(mode) * block + fill_place(mode, k);
+            if (lane_bit(place) != value)
+                flip_bit(place);
+        }
+}
+
+/* Fill bits are ignored: those of a damaged lane all flipped, all 0, all 1, and each alone flipped in the middle multiblock. As a
+   contrast, each data bit of a block flipped alone. */
+static void run_fill(u8 mode, size multiblocks) {
+    size alone = 0, data = 0, start = multiblock_bits(mode) * (multiblocks / 2);
+    make_damaged(mode, multiblocks);
+    memset(&out, UNTOUCHED, sizeof out);
+    struct zaytulobe_receiver state = receive(mode, zaytulobe_fresh_receiver(), 0, multiblocks, &out, 0).state;
+    printf("%s, %lu damaged multiblocks, received as before with", name_of(mode), multiblocks);
+    flip_fill(mode, 0, multiblocks);
+    printf(" every fill bit flipped: %s;", received_as(mode, multiblocks, &state) ? "yes" : "NO");
+    put_fill(mode, multiblocks, 0);
+    printf(" all 0: %s;", received_as(mode, multiblocks, &state) ? "yes" : "NO");
+    put_fill(mode, multiblocks, 1);
+    printf(" all 1: %s;", received_as(mode, multiblocks, &state) ? "yes" : "NO");
+    for (size k = 0; k < 14 * BLOCKS; k++) {
+        size place = start + block_bits(mode) * (k / 14) + fill_place(mode, k % 14);
+        flip_bit(place);
+        alone += (size)received_as(mode, multiblocks, &state);
+        flip_bit(place);
+    }
+    for (size k = 0; k < 64; k++) {
+        flip_bit(start + data_place(mode, k));
+        data += (size)received_as(mode, multiblocks, &state);
+        flip_bit(start + data_place(mode, k));
+    }
+    printf(" one fill bit flipped: %lu of 448; one data bit flipped: %lu of 64\n", alone, data);
 }
 
 /* Statuses as a text of numbers of one digit; '?' stands for 255. */
@@ -372,22 +448,27 @@ static void run_tied(void) {
 }
 
 int main(void) {
-    run_bursts_fec();
-    run_bursts_crc12();
-    run_counts(CRC12);
-    run_counts(FEC);
+    run_bursts_fec(FEC);
+    run_bursts_crc12(CRC12);
+    run_bursts_fec(FEC_80);
+    run_bursts_crc12(CRC12_80);
+    for (u8 mode = 0; mode < MODES; mode++)
+        run_counts(mode);
     run_modes();
     run_waiting_states();
     run_invalid_states();
     run_empty_states();
-    run_lengths();
+    for (u8 mode = 0; mode < MODES; mode++)
+        run_lengths(mode);
     run_room();
     run_room_for_invalid();
     run_two_at_once();
-    run_cuts(CRC12, 8);
-    run_cuts(FEC, 8);
-    run_invalid(CRC12, 6);
-    run_invalid(FEC, 6);
+    for (u8 mode = 0; mode < MODES; mode++)
+        run_cuts(mode, 8);
+    for (u8 mode = 0; mode < MODES; mode++)
+        run_invalid(mode, 6);
+    run_fill(CRC12_80, 8);
+    run_fill(FEC_80, 8);
     run_longest();
     run_tied();
     return 0;

@@ -3,24 +3,26 @@
 //! neither 0 nor 1 and a phase above 2 are out of range.
 //!
 //! Drawn: draw(4), which call of the four. Then, in order:
-//! mode = [0, 0, 0, 0, 1, 1, 1, 2][draw(8)] and E = [1, 2, 3, 4, 256, 255, 257, 0][draw(8)], where the call has them.
+//! mode = [0, 0, 0, 0, 1, 1, 1, 2, 2, 2, 2, 3, 3, 3, 4, 255][draw(16)] and E = [1, 2, 3, 4, 256, 255, 257, 0][draw(8)], where
+//! the call has them. With a mode that there isn't, all else is drawn as with mode 1.
 //! A history: three draws, of 19, 20 and 19 bits, the first highest; rarely 2^58 more.
-//! A count of multiblocks: draw(4); but 239 + draw(3) if draw(32), drawn first, is 0.
+//! A count of multiblocks: draw(4); but if draw(32), drawn first, is 0, 239 + draw(3), or 199 + draw(3) in modes 2 and 3.
 //!
-//! send: a history; a parity, draw(4096), or with another mode than 0 two draws of 13 bits, the first highest; rarely 2^12,
-//! or 2^26, more; a number, draw(E), 0 for E 0; rarely E more; a count; 256 user octets for each, rarely 1 + draw(255) more;
-//! a command for each, rarely one more, draw(128) each, or 0 with another mode than 0; rarely, if there is one, command
-//! draw(how many) becomes 128, or 1; a lane of 264 octets for each and draw(16), rarely 1 less than for each.
+//! send: a history; a parity, draw(4096) in modes 0 and 2, in others two draws of 13 bits, the first highest; rarely 2^12, or
+//! 2^26, more; a number, draw(E), 0 for E 0; rarely E more; a fill, draw(2^17) in modes 2 and 3, in others 0, but if draw(8)
+//! is 0 then [0, 1, 131070, 131071, 131072, 4294967295][draw(6)]; a count; 256 user octets for each, rarely 1 + draw(255)
+//! more; a command for each, rarely one more, draw(128) each in modes 0 and 2, in others 0; rarely, if there is one, command
+//! draw(how many) becomes 128, or 1; a lane of 264 octets for each, or 320, and draw(16), rarely 1 less than for each.
 //!
 //! receive: waiting = [0, 0, 0, 1, 1, 1, 1, 1][draw(8)], rarely 2; trusted = draw(2), rarely 2; a history; a command,
-//! draw(256), rarely 256 more, or with another mode than 0 rarely 1; 256 octets; invalid = draw(33), but if draw(4) is 0
+//! draw(256) in modes 0 and 2, rarely 256 more, in others 0, rarely 1; 256 octets; invalid = draw(33), but if draw(4) is 0
 //! then [0, 32, 33, 255][draw(4)]. With nothing waiting, draw(12): 0 keeps all, 1 only the history, 2 the command, 3 trusted,
 //! 4 the octets, 5 invalid, others none; what isn't kept becomes 0. A count; 264 lane octets for each, rarely 1 + draw(263)
-//! more. Lent: 256 octets for each and draw(16), and five lists, one for each and draw(3); if draw(8) is 0, number draw(6) of
-//! these six is 1 less than for each.
+//! more, or 320 and 1 + draw(319). Lent: 256 octets for each and draw(16), and five lists, one for each and draw(3); if
+//! draw(8) is 0, number draw(6) of these six is 1 less than for each.
 //!
-//! step: locked = [0, 1, 1, 1, 1, 1, 1, 1][draw(8)], rarely 2; offset = draw(66), rarely 66 more; run = draw(64), rarely 64
-//! more; bad = draw(16) if locked is 1, rarely 16 more; phase = draw(3), rarely 3; seen = [0, 5, 31, 32, 32, 32, 32,
+//! step: locked = [0, 1, 1, 1, 1, 1, 1, 1][draw(8)], rarely 2; offset = draw(66), rarely 66 more, or draw(80) and 80 more in
+//! modes 2 and 3; run = draw(64), rarely 64 more; bad = draw(16) if locked is 1, rarely 16 more; phase = draw(3), rarely 3; seen = [0, 5, 31, 32, 32, 32, 32,
 //! 32][draw(8)], rarely 33; headers, two draws of 16 bits, the first highest; if draw(2) is 0, their last four bits become 0
 //! and bit 8 becomes 1; but rarely, only the lowest `seen` bits are kept; good = 1 + draw(3) if phase is 1, rarely 4 more;
 //! bad = draw(8) if phase is 2, rarely 8 more; next = 1 if phase is 1 or 2 and draw(2) is 0, or else 1 + draw(32 E); rarely
@@ -30,8 +32,8 @@
 //! longest: draw(12) statuses, [0, 0, 0, 0, 1, 1, 1, 2, 3, 4, 5, 255][draw(12)] each; 256 octets for each, rarely 1 + draw(255)
 //! more, rarely 256 more. The octets are 0.
 //!
-//! Every number lent to be written is 165 before. Lines: `SEED send REFUSAL COUNT HISTORY PARITY NUMBER DIGEST`, the digest
-//! of the lane; `SEED receive REFUSAL COUNT WAITING HISTORY TRUSTED COMMAND INVALID DIGEST DIGEST`, those of the state's octets
+//! Every number lent to be written is 165 before. Lines: `SEED send REFUSAL COUNT HISTORY PARITY NUMBER FILL DIGEST`, the
+//! digest of the lane; `SEED receive REFUSAL COUNT WAITING HISTORY TRUSTED COMMAND INVALID DIGEST DIGEST`, those of the state's octets
 //! and of all that was lent, commands, places and patterns as 8 octets each; `SEED step REFUSAL` and the fields of the state
 //! (locks.rs); `SEED longest REFUSAL START COUNT`.
 
@@ -40,13 +42,19 @@ use crate::digest::Digest;
 use crate::generator::Generator;
 use crate::lock::{self, ExtendedLock, HeaderLock, Lock, Phase};
 use crate::longest;
-use crate::mode::{is_extent, mode, BLOCKS, LANE_OCTETS, USER_OCTETS};
+use crate::mode::{is_extent, mode, row, Mode, BLOCKS, USER_OCTETS};
 use crate::receiver::{self, Lent, Receiver};
 use crate::sender::{self, Sender};
 
-const MODES: [u8; 8] = [0, 0, 0, 0, 1, 1, 1, 2];
+const MODES: [u8; 16] = [0, 0, 0, 0, 1, 1, 1, 2, 2, 2, 2, 3, 3, 3, 4, 255];
 const EXTENTS: [u32; 8] = [1, 2, 3, 4, 256, 255, 257, 0];
+const FILLS: [u32; 6] = [0, 1, 131_070, 131_071, 131_072, u32::MAX];
 const BEFORE: u8 = 165;
+
+/// The row that is drawn by.
+fn drawn_as(number: u8) -> &'static Mode {
+    mode(number).unwrap_or(row(1))
+}
 
 /// So much, but rarely more.
 fn or_more(generator: &mut Generator, number: u32, more: u32) -> u32 {
@@ -81,9 +89,9 @@ fn draw_history(generator: &mut Generator) -> u64 {
     }
 }
 
-fn draw_count(generator: &mut Generator) -> usize {
+fn draw_count(generator: &mut Generator, mode: &Mode) -> usize {
     if generator.draw(32) == 0 {
-        239 + generator.draw(3)
+        mode.most - 1 + generator.draw(3)
     } else {
         generator.draw(4)
     }
@@ -95,8 +103,8 @@ fn draw_parts(generator: &mut Generator, part: usize, count: usize) -> Vec<u8> {
     generator.draw_octets(part * count + more)
 }
 
-fn draw_parity(generator: &mut Generator, mode: u8) -> u32 {
-    if mode == 0 {
+fn draw_parity(generator: &mut Generator, mode: &Mode) -> u32 {
+    if mode.word.code.width() == 12 {
         let parity = draw_number(generator, 4096);
         return or_more(generator, parity, 1 << 12);
     }
@@ -104,32 +112,51 @@ fn draw_parity(generator: &mut Generator, mode: u8) -> u32 {
     or_more(generator, parity, 1 << 26)
 }
 
-fn draw_commands(generator: &mut Generator, mode: u8, count: usize) -> Vec<u32> {
+/// Any of 17 bits where there are fill bits, but often at the edge of its range or past that.
+fn draw_fill(generator: &mut Generator, mode: &Mode) -> u32 {
+    let any = if mode.gap == 0 { 0 } else { draw_number(generator, 1 << 17) };
+    if generator.draw(8) == 0 {
+        generator.one_of(&FILLS)
+    } else {
+        any
+    }
+}
+
+fn draw_state(generator: &mut Generator, mode: &Mode, e: u32) -> Sender {
+    let history = draw_history(generator);
+    let parity = draw_parity(generator, mode);
+    let number = draw_number(generator, e.max(1));
+    let number = or_more(generator, number, e);
+    Sender { history, parity, number, fill: draw_fill(generator, mode) }
+}
+
+fn draw_commands(generator: &mut Generator, mode: &Mode, count: usize) -> Vec<u32> {
     let length = count + usize::from(generator.rarely());
-    let mut commands: Vec<u32> = (0..length).map(|_| if mode == 0 { draw_number(generator, 128) } else { 0 }).collect();
+    let most = mode.word.highest_command;
+    let command = |_| if most == 0 { 0 } else { draw_number(generator, most + 1) };
+    let mut commands: Vec<u32> = (0..length).map(command).collect();
     if generator.rarely() && length > 0 {
-        commands[generator.draw(length)] = if mode == 0 { 128 } else { 1 };
+        commands[generator.draw(length)] = most + 1;
     }
     commands
 }
 
 fn send(generator: &mut Generator) -> String {
-    let mode = generator.one_of(&MODES);
+    let number = generator.one_of(&MODES);
+    let mode = drawn_as(number);
     let e = generator.one_of(&EXTENTS);
-    let history = draw_history(generator);
-    let parity = draw_parity(generator, mode);
-    let number = draw_number(generator, e.max(1));
-    let state = Sender { history, parity, number: or_more(generator, number, e) };
-    let count = draw_count(generator);
+    let state = draw_state(generator, mode, e);
+    let count = draw_count(generator, mode);
     let user = draw_parts(generator, USER_OCTETS, count);
     let commands = draw_commands(generator, mode, count);
-    let room = LANE_OCTETS * count + generator.draw(16);
-    let room = if generator.rarely() { (LANE_OCTETS * count).saturating_sub(1) } else { room };
+    let whole = mode.lane_octets() * count;
+    let room = whole + generator.draw(16);
+    let room = if generator.rarely() { whole.saturating_sub(1) } else { room };
     let mut lane = vec![BEFORE; room];
-    let sent = sender::send(mode, e, state, &user, &commands, &mut lane);
-    let Sender { history, parity, number } = sent.state;
+    let sent = sender::send(number, e, state, &user, &commands, &mut lane);
+    let Sender { history, parity, number, fill } = sent.state;
     let digest = Digest::of(&lane).hexadecimal();
-    format!("send {} {} {history} {parity} {number} {digest}", sent.refusal, sent.count)
+    format!("send {} {} {history} {parity} {number} {fill} {digest}", sent.refusal, sent.count)
 }
 
 /// A receiver's state as numbers.
@@ -153,17 +180,18 @@ fn draw_invalid(generator: &mut Generator) -> u8 {
 }
 
 impl Given {
-    fn draw_any(generator: &mut Generator, mode: u8) -> Given {
+    fn draw_any(generator: &mut Generator, mode: &Mode) -> Given {
         let waiting = or_rather(generator, &[0, 0, 0, 1, 1, 1, 1, 1], 2);
         let trusted = or_rather(generator, &[0, 1], 2);
         let history = draw_history(generator);
-        let command = if mode == 0 { draw_number(generator, 256) } else { 0 };
-        let command = or_more(generator, command, if mode == 0 { 256 } else { 1 });
+        let has_commands = mode.word.highest_command > 0;
+        let command = if has_commands { draw_number(generator, 256) } else { 0 };
+        let command = or_more(generator, command, if has_commands { 256 } else { 1 });
         let octets = generator.draw_octets(USER_OCTETS);
         Given { waiting, trusted, history, command, octets, invalid: draw_invalid(generator) }
     }
 
-    fn draw(generator: &mut Generator, mode: u8) -> Given {
+    fn draw(generator: &mut Generator, mode: &Mode) -> Given {
         let any = Given::draw_any(generator, mode);
         let none = Given::of(&Receiver::fresh());
         if any.waiting != 0 {
@@ -234,9 +262,10 @@ fn digest_of(lent: &Lent) -> Digest {
 
 fn receive(generator: &mut Generator) -> String {
     let number = generator.one_of(&MODES);
-    let given = Given::draw(generator, number);
-    let count = draw_count(generator);
-    let lane = draw_parts(generator, LANE_OCTETS, count);
+    let drawn_as = drawn_as(number);
+    let given = Given::draw(generator, drawn_as);
+    let count = draw_count(generator, drawn_as);
+    let lane = draw_parts(generator, drawn_as.lane_octets(), count);
     let mut lent = draw_lent(generator, count);
     let (refusal, count, after) = match given.state() {
         Some(state) => {
@@ -273,11 +302,12 @@ fn draw_next(generator: &mut Generator, phase: u32, period: u32) -> u32 {
     }
 }
 
-fn draw_lock(generator: &mut Generator, e: u32) -> Numbers {
+fn draw_lock(generator: &mut Generator, mode: &Mode, e: u32) -> Numbers {
     let period = 32 * e.max(1);
     let locked = or_rather(generator, &[0, 1, 1, 1, 1, 1, 1, 1], 2);
-    let offset = draw_number(generator, 66);
-    let offset = or_more(generator, offset, 66);
+    let bits = mode.block_bits() as u32;
+    let offset = draw_number(generator, bits);
+    let offset = or_more(generator, offset, bits);
     let run = draw_number(generator, 64);
     let run = or_more(generator, run, 64);
     let bad = if locked == 1 { draw_number(generator, 16) } else { 0 };
@@ -310,7 +340,7 @@ fn lock_of(numbers: Numbers) -> Option<Lock> {
 fn step(generator: &mut Generator) -> String {
     let number = generator.one_of(&MODES);
     let e = generator.one_of(&EXTENTS);
-    let numbers = draw_lock(generator, e);
+    let numbers = draw_lock(generator, drawn_as(number), e);
     let header = draw_number(generator, 4);
     let header = or_more(generator, header, 4) as u8;
     let (refusal, after) = match lock_of(numbers) {
@@ -356,7 +386,7 @@ mod tests {
     #[test]
     fn every_call_is_accepted_and_refused_by_each_number() {
         let mut seen: HashMap<(String, String), usize> = HashMap::new();
-        for seed in 1..=4000 {
+        for seed in 1..=6000 {
             let line = call(seed);
             let mut words = line.split(' ').map(str::to_string);
             *seen.entry((words.next().unwrap(), words.next().unwrap())).or_default() += 1;
@@ -371,10 +401,23 @@ mod tests {
         }
     }
 
+    /// A refused state comes back as it was given, and an accepted empty call's too: FILL is word 6 of the line.
+    #[test]
+    fn fills_are_refused_from_their_edge_on() {
+        let lines: Vec<String> = (1..=6000).map(call).collect();
+        let count = |start: &str, fill: &str| {
+            let of_start = lines.iter().filter(|line| line.starts_with(start));
+            of_start.filter(|line| line.split(' ').nth(6) == Some(fill)).count()
+        };
+        assert!(["1", "131070", "131071", "131072", "4294967295"].iter().all(|fill| count("send 3 0 ", fill) > 2));
+        assert!(count("send 0 0 ", "131070") > 0 && count("send 0 0 ", "1") > 0);
+        assert!(["131071", "131072", "4294967295"].iter().all(|fill| count("send 0 ", fill) == 0));
+    }
+
     /// A refused state comes back as it was given: WAITING is word 3 of the line, INVALID word 7.
     #[test]
     fn numbers_of_invalid_headers_are_refused() {
-        let refused: Vec<String> = (1..=4000).map(call).filter(|line| line.starts_with("receive 3 ")).collect();
+        let refused: Vec<String> = (1..=6000).map(call).filter(|line| line.starts_with("receive 3 ")).collect();
         let given = |line: &String| {
             let words: Vec<&str> = line.split(' ').collect();
             (words[3] == "0", words[7].parse::<u8>().unwrap())

@@ -5,15 +5,17 @@
 //! above 2^20, so one draw makes each number; "rarely" is draw(32) being 0. A digest is FNV-1a of 64 bits over octets, a number as 8 octets with the
 //! highest first; it is printed in 16 hexadecimal digits, all else in decimal.
 //!
+//! A mode is 0 to 3, draw(4); by it a block has 66 bits or 80, a multiblock 2,112 lane bits or 2,560 and 264 lane octets or
+//! 320, and a call takes at most 240 multiblocks or 200.
 //! Input of a sender: mode, E, the number of multiblocks; 256 user octets for each, draw(256) each; one command for each,
-//! draw(128) each in CRC-12, and 0 without a draw in FEC.
+//! draw(128) each in modes 0 and 2, and 0 without a draw in modes 1 and 3.
 //! Calls: until nothing is left, draw(4) multiblocks, but at most what is left; 0 is an empty call. No case takes more
 //! than 64 calls.
 
 use std::ops::Range;
 
 use crate::generator::Generator;
-use crate::mode::{LANE_OCTETS, USER_OCTETS};
+use crate::mode::{row, USER_OCTETS};
 use crate::sender::{self, Sender};
 
 const MOST_CALLS: usize = 64;
@@ -30,7 +32,8 @@ impl Input {
     /// Mode, E and the number of multiblocks were drawn; now the octets and the commands.
     pub fn draw(generator: &mut Generator, mode: u8, e: u32, multiblocks: usize) -> Input {
         let user = generator.draw_octets(USER_OCTETS * multiblocks);
-        let mut command = || if mode == 1 { 0 } else { generator.draw(128) as u32 };
+        let most = row(mode).word.highest_command as usize;
+        let mut command = || if most == 0 { 0 } else { generator.draw(most + 1) as u32 };
         let commands = (0..multiblocks).map(|_| command()).collect();
         Input { mode, e, user, commands }
     }
@@ -41,7 +44,7 @@ impl Input {
 
     /// The lane that a fresh sender makes of it in one call.
     pub fn lane(&self) -> Vec<u8> {
-        let mut lane = vec![0; LANE_OCTETS * self.multiblocks()];
+        let mut lane = vec![0; row(self.mode).lane_octets() * self.multiblocks()];
         let sent = sender::send(self.mode, self.e, Sender::fresh(), &self.user, &self.commands, &mut lane);
         assert_eq!((sent.refusal, sent.count), (0, self.multiblocks()));
         lane
@@ -49,7 +52,7 @@ impl Input {
 }
 
 pub fn draw_mode(generator: &mut Generator) -> u8 {
-    generator.draw(2) as u8
+    generator.draw(4) as u8
 }
 
 /// E of lanes and damaged lanes.

@@ -1,22 +1,23 @@
 //! `SEED damaged`: what a receiver makes of a seeded lane, damaged and cut into calls (cases.rs has the generator and
 //! the digest).
 //!
-//! Drawn: mode = draw(2); E = [1, 2, 3, 256][draw(4)]; N = 2 + draw(6) multiblocks; user octets;
-//! commands. The lane is made in one call of a fresh sender. Then kind = draw(10):
+//! Drawn: mode; E = [1, 2, 3, 256][draw(4)]; N = 2 + draw(6) multiblocks, M lane bits each; user octets; commands. The lane
+//! is made in one call of a fresh sender. Then kind = draw(11):
 //!   0  none
 //!   1  one burst of at most 9 lane bits in FEC, 12 in CRC-12
 //!   2  1 + draw(4) bursts of at most 14 lane bits
 //!   3  1 + draw(8) headers: block draw(32 N) gets an invalid one
-//!   4  1 + draw(64) octets: octet draw(264 N) becomes draw(256)
+//!   4  1 + draw(64) octets: octet draw(M N / 8) becomes draw(256)
 //!   5  both header bits flipped in every block of the multiblocks N / 2 (rounded down) to N - 1 that carries parity
-//!   6  bursts of at most 9 lane bits in FEC, 12 in CRC-12, 4,224 clear bits or more between: the first begins at bit
-//!      draw(4224), each next draw(2112) bits later than it could, while they end within the lane; of each the length is
+//!   6  bursts of at most 9 lane bits in FEC, 12 in CRC-12, 2 M clear bits or more between: the first begins at bit
+//!      draw(2 M), each next draw(M) bits later than it could, while they end within the lane; of each the length is
 //!      drawn, then its bits, then where the next begins
 //!   7  every octet is drawn
 //!   8  1 + draw(3) stretches of headers: from block draw(32 N) on 1 + draw(96) blocks, but at most to the lane's end, get
 //!      00 if draw(3) is 0, 11 if it is 1, and an invalid one each if it is 2
 //!   9  noise = 1 + draw(8); each block in order, if draw(noise) is 0, gets an invalid header
-//! A burst of at most m bits: length = 1 + draw(m); first bit = draw(2112 N - length + 1); the first and the last are
+//!  10  noise = 1 + draw(8); each fill bit in order, if draw(noise) is 0, is flipped; in modes 0 and 1 there is none
+//! A burst of at most m bits: length = 1 + draw(m); first bit = draw(M N - length + 1); the first and the last are
 //! flipped, and each between, in order, if draw(2) is 1. An invalid header is 00 if draw(2) is 0, and 11 if it is 1.
 //! Then the calls are drawn in which the lane is received, the first from a fresh state.
 //! A line: `SEED damaged MODE N KIND COUNT`, COUNT multiblocks released in all; for each
@@ -30,12 +31,11 @@ use crate::digest::Digest;
 use crate::frame::{self, NewHeader};
 use crate::generator::Generator;
 use crate::longest;
-use crate::mode::{mode, Mode, BLOCKS, BLOCK_BITS, LANE_OCTETS, MULTIBLOCK_BITS, USER_OCTETS};
+use crate::mode::{row, Mode, BLOCKS, USER_OCTETS};
 use crate::receiver::{self, Lent, Receiver};
 
 const LONG_BURST: usize = 14;
 const LONG_STRETCH: usize = 96;
-const CLEAR_BITS: usize = 4224;
 
 pub struct Case {
     pub mode: u8,
@@ -71,25 +71,26 @@ fn draw_burst(generator: &mut Generator, at_most: usize, lane_bits: usize) -> Ve
     draw_bits(generator, first, first + length - 1)
 }
 
-/// The lane bits of bursts of at most so many, far enough from each other.
-fn draw_far_bursts(generator: &mut Generator, at_most: usize, lane_bits: usize) -> Vec<usize> {
+/// The lane bits of bursts within the mode's limit, far enough from each other.
+fn draw_far_bursts(generator: &mut Generator, mode: &Mode, lane_bits: usize) -> Vec<usize> {
+    let clear_bits = 2 * mode.multiblock_bits();
     let mut places = vec![];
-    let mut first = generator.draw(CLEAR_BITS);
+    let mut first = generator.draw(clear_bits);
     loop {
-        let last = first + generator.draw(at_most);
+        let last = first + generator.draw(mode.word.burst_limit);
         if last >= lane_bits {
             return places;
         }
         places.extend(draw_bits(generator, first, last));
-        first = last + 1 + CLEAR_BITS + generator.draw(MULTIBLOCK_BITS);
+        first = last + 1 + clear_bits + generator.draw(mode.multiblock_bits());
     }
 }
 
 /// The lane bits of all headers that carry parity in the multiblocks from `first` on.
 fn parity_headers(mode: &Mode, first: usize, multiblocks: usize) -> Vec<usize> {
-    let carries = |block: &usize| mode.layout.parity_bit(block % BLOCKS).is_some();
+    let carries = |block: &usize| mode.word.layout.parity_bit(block % BLOCKS).is_some();
     let blocks = (BLOCKS * first..BLOCKS * multiblocks).filter(carries);
-    blocks.flat_map(|block| [BLOCK_BITS * block, BLOCK_BITS * block + 1]).collect()
+    blocks.flat_map(|block| [mode.block_bits() * block, mode.block_bits() * block + 1]).collect()
 }
 
 fn draw_invalid(generator: &mut Generator, block: usize) -> NewHeader {
@@ -123,25 +124,32 @@ fn draw_noise(generator: &mut Generator, blocks: usize) -> Vec<NewHeader> {
     (0..blocks).filter_map(header).collect()
 }
 
+/// Fill bits all along the lane.
+fn draw_fill(generator: &mut Generator, mode: &Mode, blocks: usize) -> Vec<usize> {
+    let noise = 1 + generator.draw(8);
+    frame::fill_places(mode, blocks).into_iter().filter(|_| generator.draw(noise) == 0).collect()
+}
+
 fn damage(generator: &mut Generator, kind: usize, mode: &Mode, multiblocks: usize, lane: Vec<u8>) -> Vec<u8> {
-    let lane_bits = MULTIBLOCK_BITS * multiblocks;
+    let lane_bits = mode.multiblock_bits() * multiblocks;
     let blocks = BLOCKS * multiblocks;
     match kind {
-        1 => flipped(&lane, &draw_burst(generator, mode.burst_limit, lane_bits)),
+        1 => flipped(&lane, &draw_burst(generator, mode.word.burst_limit, lane_bits)),
         2 => (0..1 + generator.draw(4))
             .fold(lane, |lane, _| flipped(&lane, &draw_burst(generator, LONG_BURST, lane_bits))),
-        3 => frame::with_headers(&lane, &draw_headers(generator, blocks)),
+        3 => frame::with_headers(mode, &lane, &draw_headers(generator, blocks)),
         4 => (0..1 + generator.draw(64)).fold(lane, |mut lane, _| {
-            let place = generator.draw(LANE_OCTETS * multiblocks);
+            let place = generator.draw(lane.len());
             lane[place] = generator.draw_octet();
             lane
         }),
         5 => flipped(&lane, &parity_headers(mode, multiblocks / 2, multiblocks)),
-        6 => flipped(&lane, &draw_far_bursts(generator, mode.burst_limit, lane_bits)),
+        6 => flipped(&lane, &draw_far_bursts(generator, mode, lane_bits)),
         7 => generator.draw_octets(lane.len()),
         8 => (0..1 + generator.draw(3))
-            .fold(lane, |lane, _| frame::with_headers(&lane, &draw_stretch(generator, blocks))),
-        9 => frame::with_headers(&lane, &draw_noise(generator, blocks)),
+            .fold(lane, |lane, _| frame::with_headers(mode, &lane, &draw_stretch(generator, blocks))),
+        9 => frame::with_headers(mode, &lane, &draw_noise(generator, blocks)),
+        10 => flipped(&lane, &draw_fill(generator, mode, blocks)),
         _ => lane,
     }
 }
@@ -151,17 +159,17 @@ pub fn draw_case(generator: &mut Generator) -> Case {
     let e = draw_extent(generator);
     let multiblocks = 2 + generator.draw(6);
     let lane = Input::draw(generator, number, e, multiblocks).lane();
-    let kind = generator.draw(10);
-    let mode = mode(number).expect("a mode drawn is 0 or 1");
-    Case { mode: number, e, multiblocks, kind, lane: damage(generator, kind, mode, multiblocks, lane) }
+    let kind = generator.draw(11);
+    Case { mode: number, e, multiblocks, kind, lane: damage(generator, kind, row(number), multiblocks, lane) }
 }
 
 fn receive(generator: &mut Generator, case: &Case) -> Outcome {
     let mut released = Lent::room_for(0);
     let mut state = Receiver::fresh();
+    let octets = row(case.mode).lane_octets();
     for call in draw_calls(generator, case.multiblocks) {
         let mut lent = Lent::room_for(call.len());
-        let lane = &case.lane[LANE_OCTETS * call.start..LANE_OCTETS * call.end];
+        let lane = &case.lane[octets * call.start..octets * call.end];
         let received = receiver::receive(case.mode, state, lane, &mut lent);
         assert_eq!(received.refusal, 0);
         released.append(&lent, received.count);
@@ -201,28 +209,52 @@ pub fn line(seed: u64) -> String {
 
 #[cfg(test)]
 mod tests {
-    use super::{case_and_outcome, draw_far_bursts, parity_headers, Outcome, CLEAR_BITS};
+    use super::{case_and_outcome, draw_far_bursts, flipped, parity_headers, Outcome};
+    use crate::frame::fill_places;
     use crate::generator::Generator;
-    use crate::mode::mode;
+    use crate::mode::row;
     use crate::receiver::{self, Lent, Receiver};
 
-    const SEEDS: std::ops::RangeInclusive<u64> = 1..=600;
+    const SEEDS: std::ops::RangeInclusive<u64> = 1..=1000;
 
     #[test]
     fn far_bursts_are_within_the_premise() {
         for seed in SEEDS {
-            let places = draw_far_bursts(&mut Generator::seeded(seed), 9, 2112 * 7);
-            assert!(places.windows(2).all(|pair| pair[1] - pair[0] < 9 || pair[1] - pair[0] > CLEAR_BITS));
-            assert!(places.iter().any(|place| *place > CLEAR_BITS) && places.iter().all(|place| *place < 2112 * 7));
+            for (mode, bits, clear_bits) in [(1, 2112, 4224), (3, 2560, 5120)] {
+                let places = draw_far_bursts(&mut Generator::seeded(seed), row(mode), bits * 7);
+                assert!(places.windows(2).all(|pair| pair[1] - pair[0] < 9 || pair[1] - pair[0] > clear_bits));
+                assert!(places.iter().any(|place| *place > clear_bits) && places.iter().all(|place| *place < bits * 7));
+            }
         }
     }
 
     #[test]
     fn the_parity_headers_of_each_mode() {
-        let [crc, fec] = [0, 1].map(|number| parity_headers(mode(number).unwrap(), 1, 2));
-        assert_eq!([crc.len(), fec.len()], [24, 52]);
-        assert_eq!([crc[0], crc[23]], [2112, 2112 + 66 * 14 + 1]);
-        assert_eq!([fec[0], fec[51]], [2112, 2112 + 66 * 26 + 1]);
+        let ends = |number| {
+            let places = parity_headers(row(number), 1, 2);
+            (places.len(), places[0], places[places.len() - 1])
+        };
+        assert_eq!([0, 1].map(ends), [(24, 2112, 2112 + 66 * 14 + 1), (52, 2112, 2112 + 66 * 26 + 1)]);
+        assert_eq!([2, 3].map(ends), [(24, 2560, 2560 + 80 * 14 + 1), (52, 2560, 2560 + 80 * 26 + 1)]);
+    }
+
+    /// Bursts with two multiblocks of clear bits between fail no multiblock of FEC.
+    #[test]
+    fn far_bursts_are_mended() {
+        let of_fec = SEEDS.map(case_and_outcome).filter(|(case, _)| row(case.mode).word.repairs && case.kind == 6);
+        let statuses: Vec<u8> = of_fec.flat_map(|(_, outcome)| outcome.released.statuses).collect();
+        assert!(statuses.len() > 99 && statuses.iter().all(|status| status & 2 == 0));
+    }
+
+    #[test]
+    fn fill_bits_are_ignored() {
+        for seed in SEEDS {
+            let (case, Outcome { released, state }) = case_and_outcome(seed);
+            let lane = flipped(&case.lane, &fill_places(row(case.mode), 32 * case.multiblocks));
+            let mut lent = Lent::room_for(case.multiblocks - 1);
+            let whole = receiver::receive(case.mode, Receiver::fresh(), &lane, &mut lent);
+            assert_eq!((lent, whole.state), (released, state));
+        }
     }
 
     #[test]
@@ -239,7 +271,7 @@ mod tests {
     /// invalid headers from none to all.
     #[test]
     fn every_status_occurs() {
-        let mut seen = [[0; 8]; 2];
+        let mut seen = [[0; 8]; 4];
         let (mut in_data, mut in_parity, mut marked) = (0, 0, 0);
         let mut invalid = [0; 33];
         for seed in SEEDS {
@@ -252,8 +284,8 @@ mod tests {
                 invalid[usize::from(released.invalid[k])] += 1;
             }
         }
-        assert!([0, 2, 4, 6].iter().all(|status| seen[0][*status] > 9));
-        assert!([0, 1, 2, 4, 5, 6].iter().all(|status| seen[1][*status] > 9));
+        assert!([0, 2, 4, 6].iter().all(|status| seen[0][*status] > 9 && seen[2][*status] > 9));
+        assert!([0, 1, 2, 4, 5, 6].iter().all(|status| seen[1][*status] > 9 && seen[3][*status] > 9));
         assert!(in_data > 9 && in_parity > 9 && marked > 9);
         assert!([0, 1, 2, 16, 32].iter().all(|number| invalid[*number] > 9));
     }

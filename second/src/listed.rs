@@ -1,14 +1,16 @@
 //! `SEED listing`: the listing of a seeded capture (cases.rs has the generator and the digest).
 //!
-//! Drawn: mode, E and a damaged lane (damaged.rs). If draw(64) is 0, the lane becomes 239 + draw(3) multiblocks of octets,
-//! draw(256) each. If draw(4) is 0, only its first draw(M + 1) multiblocks are kept, of M. If draw(12) is 6, it loses its
-//! last draw(264) octets, or all. This is made a capture; and then, where draw(12) was
+//! Drawn: mode, E and a damaged lane (damaged.rs), of multiblocks of 264 octets or 320. If draw(32) is 0, the lane becomes
+//! 239 + draw(3) multiblocks of octets, 199 + draw(3) in modes 2 and 3, draw(256) each octet. If draw(4) is 0, only its first
+//! draw(M + 1) multiblocks are kept, of M. If draw(12) is 6, it loses its last draw(264 or 320) octets, or all. This is made
+//! a capture; and then, where draw(12) was
 //!   0  the mode becomes draw(256)
 //!   1  E becomes [0, 1, 256, 257][draw(4)]
 //!   2  E becomes draw(65536)
 //!   3  octet draw(11) becomes draw(256)
 //!   4  only the first draw(L + 1) octets are kept, of L
 //!   5  1 + draw(300) octets more, draw(256) each
+//!   7  the mode becomes draw(5)
 //! The text lent has 4,096 octets; if draw(8) is 0, draw(64). Each is 165 before.
 //! A line: `SEED listing LENGTH REFUSAL COUNT DIGEST`, with the length of the capture and the digest of all octets lent.
 
@@ -17,29 +19,31 @@ use crate::damaged;
 use crate::digest::Digest;
 use crate::generator::Generator;
 use crate::listing;
-use crate::mode::LANE_OCTETS;
+use crate::mode::{row, Mode};
 
 const BEFORE: u8 = 165;
 const ROOM: usize = 4096;
 
-fn draw_lane(generator: &mut Generator, damaged: Vec<u8>) -> Vec<u8> {
+fn draw_lane(generator: &mut Generator, mode: &Mode, damaged: Vec<u8>) -> Vec<u8> {
+    let octets = mode.lane_octets();
     let mut lane = damaged;
-    if generator.draw(64) == 0 {
-        let multiblocks = 239 + generator.draw(3);
-        lane = generator.draw_octets(LANE_OCTETS * multiblocks);
+    if generator.draw(32) == 0 {
+        let multiblocks = mode.most - 1 + generator.draw(3);
+        lane = generator.draw_octets(octets * multiblocks);
     }
     if generator.draw(4) == 0 {
-        lane.truncate(LANE_OCTETS * generator.draw(lane.len() / LANE_OCTETS + 1));
+        lane.truncate(octets * generator.draw(lane.len() / octets + 1));
     }
     lane
 }
 
 fn draw_capture(generator: &mut Generator) -> Vec<u8> {
     let case = damaged::draw_case(generator);
-    let mut lane = draw_lane(generator, case.lane);
+    let mode = row(case.mode);
+    let mut lane = draw_lane(generator, mode, case.lane);
     let form = generator.draw(12);
     if form == 6 {
-        lane.truncate(lane.len().saturating_sub(generator.draw(LANE_OCTETS)));
+        lane.truncate(lane.len().saturating_sub(generator.draw(mode.lane_octets())));
     }
     let of_mode = |mode: u8| capture(mode, case.e as u16, &lane);
     let of_extent = |e: usize| capture(case.mode, e as u16, &lane);
@@ -61,6 +65,7 @@ fn draw_capture(generator: &mut Generator) -> Vec<u8> {
             let more = 1 + generator.draw(300);
             [whole, generator.draw_octets(more)].concat()
         }
+        7 => of_mode(generator.draw(5) as u8),
         _ => whole,
     }
 }
@@ -101,11 +106,13 @@ mod tests {
     #[test]
     fn every_refusal_and_the_longest_occur() {
         let outcomes: Vec<(usize, u8, usize)> =
-            (1..=1000).map(outcome).map(|(length, refusal, count, _)| (length, refusal, count)).collect();
+            (1..=1500).map(outcome).map(|(length, refusal, count, _)| (length, refusal, count)).collect();
         for refusal in [0, 1, 2, 4, 7, 8] {
             assert!(outcomes.iter().filter(|outcome| outcome.1 == refusal).count() > 9, "refusal {refusal}");
         }
-        assert!(outcomes.iter().any(|outcome| outcome.0 == 63_371 && outcome.1 == 0));
-        assert!(outcomes.iter().any(|outcome| outcome.0 > 63_371 && outcome.1 == 8));
+        for longest in [63_371, 64_011] {
+            assert!(outcomes.iter().any(|outcome| outcome.0 == longest && outcome.1 == 0));
+        }
+        assert!(outcomes.iter().any(|outcome| outcome.0 > 64_011 && outcome.1 == 8));
     }
 }

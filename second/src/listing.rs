@@ -1,14 +1,12 @@
 //! Captures and their listings (document 01, "Capture and listing"). A capture is two sections, each after its count in
-//! four octets, highest first: mode and E in two octets, and the lane's octets. Nothing follows.
+//! four octets, highest first: mode and E in two octets, and the lane's octets. Nothing follows. How long it may be goes by
+//! its mode; where there is no such mode, as in modes 0 and 1 (document 02, request 2).
 //!
 //! `second listings` reads named captures on standard input, one after another, the name and the capture as a section
 //! each, and prints for each its name with a colon on a line, and its listing.
 
-use crate::mode::{is_extent, LANE_OCTETS};
+use crate::mode::{is_extent, mode, row, Mode};
 use crate::receiver::{receive, Lent, Receiver};
-
-const MOST_OCTETS: usize = 63_371;
-const NAMES: [&str; 2] = ["crc12", "fec"];
 
 /// The section at the start, and what follows it.
 fn section(octets: &[u8]) -> Option<(&[u8], &[u8])> {
@@ -16,29 +14,35 @@ fn section(octets: &[u8]) -> Option<(&[u8], &[u8])> {
     rest.split_at_checked(u32::from_be_bytes(*count) as usize)
 }
 
+/// The octets of the longest capture with that mode octet.
+fn longest(octet: u8) -> usize {
+    mode(octet).unwrap_or(row(0)).longest_capture()
+}
+
 /// The settings and the lane of a capture, if it has the form.
 fn sections(capture: &[u8]) -> Option<([u8; 3], &[u8])> {
     let (settings, rest) = section(capture)?;
     let (lane, after) = section(rest)?;
-    let fits = after.is_empty() && capture.len() <= MOST_OCTETS;
-    settings.try_into().ok().filter(|_| fits).map(|settings| (settings, lane))
+    let settings: [u8; 3] = settings.try_into().ok()?;
+    let fits = after.is_empty() && capture.len() <= longest(settings[0]);
+    fits.then_some((settings, lane))
 }
 
 /// The lines of a listing, or the number by which the capture is refused.
 pub fn lines(capture: &[u8]) -> Result<Vec<String>, u8> {
-    let ([mode, e_high, e_low], lane) = sections(capture).ok_or(8)?;
-    let name = NAMES.get(usize::from(mode)).ok_or(1)?;
+    let ([octet, e_high, e_low], lane) = sections(capture).ok_or(8)?;
+    let mode: &Mode = mode(octet).ok_or(1)?;
     let e = u16::from_be_bytes([e_high, e_low]);
     if !is_extent(u32::from(e)) {
         return Err(2);
     }
-    let multiblocks = lane.len() / LANE_OCTETS;
+    let multiblocks = lane.len() / mode.lane_octets();
     let mut lent = Lent::room_for(multiblocks);
-    let received = receive(mode, Receiver::fresh(), lane, &mut lent);
+    let received = receive(octet, Receiver::fresh(), lane, &mut lent);
     if received.refusal != 0 {
         return Err(received.refusal);
     }
-    let head = format!("{name} {e} {multiblocks} {}", received.count);
+    let head = format!("{} {e} {multiblocks} {}", mode.name, received.count);
     let line = |k: usize| format!("{k} {} {} {}", lent.statuses[k], lent.places[k], lent.patterns[k]);
     Ok([head].into_iter().chain((0..received.count).map(line)).collect())
 }
@@ -74,13 +78,40 @@ mod tests {
     }
 
     #[test]
+    fn every_mode_has_its_name() {
+        let heads = ["crc12 1 0 0\n", "fec 1 0 0\n", "crc12-80 1 0 0\n", "fec-80 1 0 0\n", "refused 1\n"];
+        assert_eq!([0, 1, 2, 3, 4].map(|mode| listing(&capture(mode, 1, &[]))), heads);
+    }
+
+    #[test]
     fn the_form_goes_before_the_table() {
         let lane = [0; 264];
-        assert_eq!(listing(&capture(2, 0, &lane[..263])), "refused 1\n");
+        assert_eq!(listing(&capture(4, 0, &lane[..263])), "refused 1\n");
         assert_eq!(listing(&capture(1, 0, &lane[..263])), "refused 2\n");
         assert_eq!(listing(&capture(1, 1, &lane[..263])), "refused 4\n");
-        assert_eq!(listing(&[capture(2, 0, &lane), vec![0]].concat()), "refused 8\n");
-        assert_eq!(listing(&capture(2, 1, &[0; 264 * 240 + 1])), "refused 8\n");
+        assert_eq!(listing(&capture(3, 1, &lane)), "refused 4\n");
+        assert_eq!(listing(&[capture(4, 0, &lane), vec![0]].concat()), "refused 8\n");
+    }
+
+    /// 8 comes before 1 and before 4: what is too long is refused by 8, whatever its mode octet is.
+    #[test]
+    fn how_long_a_capture_may_be() {
+        let first =
+            |mode, length: usize| listing(&capture(mode, 1, &vec![0; length - 11])).lines().next().map(String::from);
+        let lengths = [63_371, 63_372, 64_011, 64_012];
+        let refused = |numbers: [u8; 4]| numbers.map(|number| Some(format!("refused {number}")));
+        for mode in [0, 1, 4, 7, 255] {
+            assert_eq!(lengths.map(|length| first(mode, length))[1..], refused([0, 8, 8, 8])[1..]);
+        }
+        assert_eq!([4, 7, 255].map(|mode| first(mode, 63_371)), [(); 3].map(|_| Some("refused 1".to_string())));
+        for (mode, name) in [(2, "crc12-80"), (3, "fec-80")] {
+            assert_eq!(first(mode, 63_371), Some(format!("{name} 1 198 197")));
+            assert_eq!(first(mode, 64_011), Some(format!("{name} 1 200 199")));
+            assert_eq!(
+                [63_372, 64_012].map(|length| first(mode, length)),
+                [4, 8].map(|number| Some(format!("refused {number}")))
+            );
+        }
     }
 
     #[test]

@@ -3,7 +3,7 @@
 
 use crate::bits;
 use crate::header::Header;
-use crate::mode::{is_extent, mode, BLOCKS, BLOCK_BITS};
+use crate::mode::{is_extent, mode, Mode, BLOCKS};
 
 const END_MARK: usize = 22;
 const PILOT: usize = 27;
@@ -57,12 +57,12 @@ impl HeaderLock {
         HeaderLock { locked: false, offset: 0, run: 0, bad: 0 }
     }
 
-    fn is_in_range(&self) -> bool {
+    fn is_in_range(&self, mode: &Mode) -> bool {
         let bad = if self.locked { LOST_AFTER - 1 } else { 0 };
-        self.run < LOCKED_AFTER && self.bad <= bad && self.offset < BLOCK_BITS as u32
+        self.run < LOCKED_AFTER && self.bad <= bad && self.offset < mode.block_bits() as u32
     }
 
-    fn step(mut self, header: Header) -> HeaderLock {
+    fn step(mut self, mode: &Mode, header: Header) -> HeaderLock {
         if !header.is_invalid() {
             self.run += 1;
             if self.run == LOCKED_AFTER {
@@ -76,7 +76,7 @@ impl HeaderLock {
             }
         } else {
             self.run = 0;
-            self.offset = (self.offset + 1) % BLOCK_BITS as u32;
+            self.offset = (self.offset + 1) % mode.block_bits() as u32;
         }
         self
     }
@@ -151,9 +151,9 @@ impl Lock {
         Lock { header: HeaderLock::fresh(), extended: ExtendedLock::fresh() }
     }
 
-    fn is_in_range(&self, e: u32) -> bool {
+    fn is_in_range(&self, mode: &Mode, e: u32) -> bool {
         let together = self.header.locked || self.extended == ExtendedLock::fresh();
-        self.header.is_in_range() && self.extended.is_in_range(e) && together
+        self.header.is_in_range(mode) && self.extended.is_in_range(e) && together
     }
 
     /// The fields in their order: header lock's locked, offset, run, bad; extended lock's phase (0 hunting, 1 following,
@@ -177,11 +177,10 @@ impl Lock {
 
 /// The lowest number of refusal that applies, or 0.
 fn refusal(number: u8, e: u32, lock: &Lock, value: u8) -> u8 {
-    if mode(number).is_none() {
-        1
-    } else if !is_extent(e) {
+    let Some(mode) = mode(number) else { return 1 };
+    if !is_extent(e) {
         2
-    } else if !lock.is_in_range(e) {
+    } else if !lock.is_in_range(mode, e) {
         3
     } else if value > 3 {
         9
@@ -193,11 +192,9 @@ fn refusal(number: u8, e: u32, lock: &Lock, value: u8) -> u8 {
 /// Both locks after one more header, given by its value. The header that gives header lock does not step extended lock.
 pub fn step(number: u8, e: u32, lock: Lock, value: u8) -> Stepped {
     let refusal = refusal(number, e, &lock, value);
-    if refusal != 0 {
-        return Stepped { refusal, lock };
-    }
+    let (0, Some(mode)) = (refusal, mode(number)) else { return Stepped { refusal, lock } };
     let header = Header::of(value);
-    let after = lock.header.step(header);
+    let after = lock.header.step(mode, header);
     let extended =
         if lock.header.locked && after.locked { lock.extended.step(e, header) } else { ExtendedLock::fresh() };
     Stepped { refusal: 0, lock: Lock { header: after, extended } }
@@ -207,6 +204,7 @@ pub fn step(number: u8, e: u32, lock: Lock, value: u8) -> Stepped {
 mod tests {
     use super::{step, ExtendedLock, HeaderLock, Lock, Phase};
     use crate::frame::header_values;
+    use crate::mode::row;
     use crate::sender::{send, Sender};
 
     const ONE: u8 = 1;
@@ -214,8 +212,12 @@ mod tests {
     const BAD: u8 = 3;
 
     fn stepped(e: u32, lock: Lock, headers: &[u8]) -> Lock {
+        stepped_in(0, e, lock, headers)
+    }
+
+    fn stepped_in(mode: u8, e: u32, lock: Lock, headers: &[u8]) -> Lock {
         headers.iter().fold(lock, |lock, header| {
-            let stepped = step(0, e, lock, *header);
+            let stepped = step(mode, e, lock, *header);
             assert_eq!(stepped.refusal, 0);
             stepped.lock
         })
@@ -252,6 +254,15 @@ mod tests {
         let slipped = stepped(1, stepped(1, Lock::fresh(), &[ONE; 40]), &[BAD, 0]);
         assert_eq!(slipped.header, HeaderLock { locked: false, offset: 2, run: 0, bad: 0 });
         assert_eq!(stepped(1, slipped, &[BAD; 64]).header.offset, 0);
+    }
+
+    #[test]
+    fn the_offset_moves_modulo_the_width() {
+        for (mode, bits) in [(0, 66), (1, 66), (2, 80), (3, 80)] {
+            let last = stepped_in(mode, 1, Lock::fresh(), &vec![BAD; bits - 1]);
+            assert_eq!(last.header.offset as usize, bits - 1);
+            assert_eq!(stepped_in(mode, 1, last, &[BAD]), Lock::fresh());
+        }
     }
 
     #[test]
@@ -320,22 +331,22 @@ mod tests {
 
     /// The headers of an undamaged lane, from a fresh sender.
     fn lane_headers(mode: u8, e: u32, multiblocks: usize) -> Vec<u8> {
-        let mut lane = vec![0; 264 * multiblocks];
+        let mut lane = vec![0; row(mode).lane_octets() * multiblocks];
         let user: Vec<u8> = (0..256 * multiblocks).map(|k| (k * k / 11) as u8).collect();
         send(mode, e, Sender::fresh(), &user, &vec![0; multiblocks], &mut lane);
-        header_values(&lane)
+        header_values(row(mode), &lane)
     }
 
-    fn blocks_to_both(e: u32, headers: &[u8]) -> usize {
+    fn blocks_to_both(mode: u8, e: u32, headers: &[u8]) -> usize {
         let mut lock = Lock::fresh();
         let both = |lock: &Lock| lock.header.locked && lock.extended.phase == Phase::Locked;
         let mut taken = 0;
         while !both(&lock) {
-            lock = stepped(e, lock, &headers[taken..=taken]);
+            lock = stepped_in(mode, e, lock, &headers[taken..=taken]);
             taken += 1;
         }
         assert!(headers[taken..].iter().all(|header| {
-            lock = stepped(e, lock, &[*header]);
+            lock = stepped_in(mode, e, lock, &[*header]);
             both(&lock)
         }));
         taken
@@ -344,9 +355,9 @@ mod tests {
     /// The bound 95 + 128 E is met from every block, and attained from some.
     #[test]
     fn an_undamaged_crc_lane_is_held() {
-        for e in [1, 2, 3] {
-            let headers = lane_headers(0, e, 6 * e as usize + 4);
-            let worst = (0..32 * e as usize).map(|from| blocks_to_both(e, &headers[from..])).max();
+        for (mode, e) in [(0, 1), (0, 2), (0, 3), (2, 1), (2, 2), (2, 3)] {
+            let headers = lane_headers(mode, e, 6 * e as usize + 4);
+            let worst = (0..32 * e as usize).map(|from| blocks_to_both(mode, e, &headers[from..])).max();
             assert_eq!(worst, Some(95 + 128 * e as usize));
         }
     }
@@ -359,11 +370,11 @@ mod tests {
 
     #[test]
     fn refusals_of_arguments() {
-        assert_eq!([0, 1, 2].map(|mode| step(mode, 1, Lock::fresh(), ONE).refusal), [0, 0, 1]);
+        assert_eq!([0, 1, 2, 3, 4].map(|mode| step(mode, 1, Lock::fresh(), ONE).refusal), [0, 0, 0, 0, 1]);
         assert_eq!([0, 1, 256, 257].map(|e| step(0, e, Lock::fresh(), ONE).refusal), [2, 0, 0, 2]);
         assert_eq!([0, 1, 2, 3, 4, 255].map(|header| step(0, 1, Lock::fresh(), header).refusal), [0, 0, 0, 0, 9, 9]);
         let bad = Lock { header: HeaderLock { run: 64, ..HeaderLock::fresh() }, ..Lock::fresh() };
-        assert_eq!([step(2, 0, bad, 4).refusal, step(0, 0, bad, 4).refusal, step(0, 1, bad, 4).refusal], [1, 2, 3]);
+        assert_eq!([step(4, 0, bad, 4).refusal, step(0, 0, bad, 4).refusal, step(0, 1, bad, 4).refusal], [1, 2, 3]);
     }
 
     #[test]
@@ -374,6 +385,10 @@ mod tests {
         check(HeaderLock { run: 64, ..locked }, 3);
         check(HeaderLock { bad: 16, ..locked }, 3);
         check(HeaderLock { offset: 66, ..locked }, 3);
+        for (offset, refused) in [(65, [0; 4]), (66, [3, 3, 0, 0]), (79, [3, 3, 0, 0]), (80, [3; 4])] {
+            let lock = Lock { header: HeaderLock { offset, ..locked }, ..Lock::fresh() };
+            assert_eq!([0, 1, 2, 3].map(|mode| step(mode, 1, lock, ONE).refusal), refused);
+        }
         check(HeaderLock { locked: false, bad: 0, ..locked }, 0);
         check(HeaderLock { locked: false, bad: 1, ..locked }, 3);
     }

@@ -1,6 +1,6 @@
 //! `SEED lock`: what the lock machines make of a seeded header stream (cases.rs has the generator and the digest).
 //!
-//! Drawn: mode = draw(2); E = 1 + draw(3); user octets and commands of 6 E + 4 multiblocks. The lane is
+//! Drawn: mode; E = 1 + draw(3); user octets and commands of 6 E + 4 multiblocks. The lane is
 //! made in one call of a fresh sender. Then the block of the first header, draw(32 E); noise = draw(3); and, for each
 //! header from that block on to the lane's end, in order: with noise 0 nothing; with noise 1, if draw(64) is 0, and with
 //! noise 2, if draw(8) is 0, the header's value becomes draw(4).
@@ -15,7 +15,7 @@ use crate::digest::Digest;
 use crate::frame;
 use crate::generator::Generator;
 use crate::lock::{step, Lock};
-use crate::mode::BLOCKS;
+use crate::mode::{row, BLOCKS};
 
 const VALID_PER_EXTENT: usize = 384;
 const LAST: usize = 192;
@@ -55,7 +55,7 @@ fn case(seed: u64) -> Case {
     let lane = Input::draw(&mut generator, mode, e, 6 * extent + 4).lane();
     let first = generator.draw(BLOCKS * extent);
     let noise = generator.draw(3);
-    let clean = &frame::header_values(&lane)[first..];
+    let clean = &frame::header_values(row(mode), &lane)[first..];
     let mut headers: Vec<u8> = clean.iter().map(|header| noisy(&mut generator, noise, *header)).collect();
     if generator.draw(5) == 0 {
         headers.extend(draw_tail(&mut generator, extent));
@@ -89,7 +89,7 @@ mod tests {
     use super::{case, states};
     use crate::lock::{Lock, Phase};
 
-    const SEEDS: std::ops::RangeInclusive<u64> = 1..=300;
+    const SEEDS: std::ops::RangeInclusive<u64> = 1..=400;
 
     /// Every two neighbouring states of every case.
     fn changes() -> Vec<(Lock, Lock)> {
@@ -109,6 +109,8 @@ mod tests {
             count(|old, new| !old.header.locked && new.header.locked),
             count(|old, new| old.header.locked && !new.header.locked),
             count(|old, new| old.header.offset == 65 && new.header.offset == 0),
+            count(|old, new| old.header.offset == 65 && new.header.offset == 66),
+            count(|old, new| old.header.offset == 79 && new.header.offset == 0),
             count(|old, new| new.header.locked && old.header.bad > 0 && new.header.bad == 0),
             count(|old, new| !new.header.locked && old.extended.phase == Phase::Locked),
             count(|old, new| old.extended.bad == 6 && new.extended.bad == 7),

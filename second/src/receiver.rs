@@ -9,7 +9,7 @@ use std::sync::LazyLock;
 use crate::bits;
 use crate::bursts::{self, Burst};
 use crate::frame::Multiblock;
-use crate::mode::{mode, Mode, BLOCKS, DATA_BITS, LANE_OCTETS, MOST_MULTIBLOCKS, USER_OCTETS};
+use crate::mode::{mode, Mode, BLOCKS, DATA_BITS, USER_OCTETS};
 use crate::polynomial::Polynomial;
 use crate::scrambler::{descramble, HISTORY_BITS};
 
@@ -107,9 +107,9 @@ enum Verdict {
 
 impl Verdict {
     fn of(mode: &Mode, codeword: &[bool]) -> Verdict {
-        match mode.code.remainder(&Polynomial::of_bits(codeword)) {
+        match mode.word.code.remainder(&Polynomial::of_bits(codeword)) {
             0 => Verdict::Agrees,
-            left if mode.repairs => BURSTS.get(&left).map_or(Verdict::Failed, |burst| Verdict::Repaired(*burst)),
+            left if mode.word.repairs => BURSTS.get(&left).map_or(Verdict::Failed, |burst| Verdict::Repaired(*burst)),
             _ => Verdict::Failed,
         }
     }
@@ -137,7 +137,7 @@ impl Receiver {
     }
 
     fn is_in_range(&self, mode: &Mode) -> bool {
-        let highest_command = if mode.highest_command == 0 { 0 } else { HIGHEST_MARKED_COMMAND };
+        let highest_command = if mode.word.highest_command == 0 { 0 } else { HIGHEST_MARKED_COMMAND };
         let fits = self.history >> HISTORY_BITS == 0 && self.command <= highest_command;
         let counts = usize::from(self.invalid) <= BLOCKS;
         fits && counts && (self.waiting || *self == Receiver::fresh())
@@ -155,14 +155,14 @@ impl Receiver {
     /// The multiblock that has come waits from now on.
     fn waiting_with(mode: &Mode, come: &Multiblock, history: u64, trusted: bool) -> Receiver {
         let octets = bits::octets(&come.data).try_into().expect("a multiblock has 256 octets of data");
-        let command = mode.layout.command(&come.headers);
+        let command = mode.word.layout.command(&come.headers);
         Receiver { waiting: true, octets, history, trusted, command, invalid: come.headers.invalid() }
     }
 
     /// The multiblock that waits is released, now that the next one has come.
     fn release(&self, mode: &Mode, come: &Multiblock) -> (Receiver, Release) {
-        let parity = u64::from(mode.layout.parity(&come.headers));
-        let mut codeword = [bits::of_octets(&self.octets), bits::of_number(parity, mode.code.width())].concat();
+        let parity = u64::from(mode.word.layout.parity(&come.headers));
+        let mut codeword = [bits::of_octets(&self.octets), bits::of_number(parity, mode.word.code.width())].concat();
         let verdict = Verdict::of(mode, &codeword);
         for position in verdict.flipped_positions() {
             codeword[position] ^= true;
@@ -183,7 +183,7 @@ impl Receiver {
 
     /// The state after a multiblock has come, and what was released.
     fn receive_one(&self, mode: &Mode, lane: &[u8]) -> (Receiver, Option<Release>) {
-        let come = Multiblock::of(&bits::of_octets(lane));
+        let come = Multiblock::of(mode, &bits::of_octets(lane));
         if self.waiting {
             let (after, release) = self.release(mode, &come);
             (after, Some(release))
@@ -196,11 +196,11 @@ impl Receiver {
 /// The lowest number of refusal that applies, or 0.
 fn refusal(number: u8, state: &Receiver, lane: &[u8], lent: &Lent) -> u8 {
     let Some(mode) = mode(number) else { return 1 };
-    let multiblocks = lane.len() / LANE_OCTETS;
+    let multiblocks = lane.len() / mode.lane_octets();
     let refused = [
         (3, !state.is_in_range(mode)),
-        (4, !lane.len().is_multiple_of(LANE_OCTETS)),
-        (5, multiblocks > MOST_MULTIBLOCKS),
+        (4, !lane.len().is_multiple_of(mode.lane_octets())),
+        (5, multiblocks > mode.most),
         (7, !lent.holds(state.released(multiblocks))),
     ];
     refused.iter().find(|(_, applies)| *applies).map_or(0, |(number, _)| *number)
@@ -212,7 +212,7 @@ pub fn receive(number: u8, state: Receiver, lane: &[u8], lent: &mut Lent) -> Rec
     let (0, Some(mode)) = (refusal, mode(number)) else { return Received { refusal, count: 0, state } };
     let mut state = state;
     let mut count = 0;
-    for octets in lane.chunks(LANE_OCTETS) {
+    for octets in lane.chunks(mode.lane_octets()) {
         let (after, released) = state.receive_one(mode, octets);
         if let Some(release) = released {
             lent.write(count, &release);
@@ -227,7 +227,8 @@ pub fn receive(number: u8, state: Receiver, lane: &[u8], lent: &mut Lent) -> Rec
 mod tests {
     use super::{receive, Lent, Received, Receiver};
     use crate::bits;
-    use crate::frame::with_headers;
+    use crate::frame::{fill_places, with_headers};
+    use crate::mode::row;
     use crate::sender::{send, Sender};
 
     const E: u32 = 2;
@@ -237,39 +238,46 @@ mod tests {
     }
 
     fn lane(mode: u8, multiblocks: usize, command: u32) -> Vec<u8> {
-        let mut lane = vec![0; 264 * multiblocks];
+        let mut lane = vec![0; row(mode).lane_octets() * multiblocks];
         let sent = send(mode, E, Sender::fresh(), &user(multiblocks), &vec![command; multiblocks], &mut lane);
         assert_eq!(sent.refusal, 0);
         lane
     }
 
     fn received(mode: u8, lane: &[u8]) -> (Received, Lent) {
-        let mut lent = Lent::room_for(lane.len() / 264);
+        let mut lent = Lent::room_for(lane.len() / row(mode).lane_octets());
         let received = receive(mode, Receiver::fresh(), lane, &mut lent);
         (received, lent)
     }
 
     /// Flips codeword positions of multiblock 1 of a FEC lane: data, or parity in the headers of the next.
-    fn flip(lane: &mut Vec<u8>, positions: &[usize]) {
+    fn flip(mode: u8, lane: &mut Vec<u8>, positions: &[usize]) {
+        let (multiblock, block_bits) = (row(mode).multiblock_bits(), row(mode).block_bits());
         let mut all = bits::of_octets(lane);
         for position in positions {
             if *position < 2048 {
-                all[2112 + 66 * (position / 64) + 2 + position % 64] ^= true;
+                all[multiblock + row(mode).data_place(*position)] ^= true;
             } else {
                 let parity = position - 2048;
                 let block = if parity < 22 { parity } else { parity + 1 };
-                all[2 * 2112 + 66 * block] ^= true;
-                all[2 * 2112 + 66 * block + 1] ^= true;
+                all[2 * multiblock + block_bits * block] ^= true;
+                all[2 * multiblock + block_bits * block + 1] ^= true;
             }
         }
         *lane = bits::octets(&all);
     }
 
-    /// Status, place and pattern of multiblock 1, and whether its octets are those sent.
+    /// Status, place and pattern of multiblock 1, and whether its octets are those sent; the same for both widths.
     fn after_flips(positions: &[usize]) -> (u8, u16, u16, bool) {
-        let mut lane = lane(1, 4, 0);
-        flip(&mut lane, positions);
-        let (received, lent) = received(1, &lane);
+        let [narrow, wide] = [1, 3].map(|mode| after_flips_of(mode, positions));
+        assert_eq!(narrow, wide);
+        wide
+    }
+
+    fn after_flips_of(mode: u8, positions: &[usize]) -> (u8, u16, u16, bool) {
+        let mut lane = lane(mode, 4, 0);
+        flip(mode, &mut lane, positions);
+        let (received, lent) = received(mode, &lane);
         assert_eq!(received.count, 3);
         let same = lent.octets[256..512] == user(4)[256..512];
         (lent.statuses[1], lent.places[1], lent.patterns[1], same)
@@ -277,8 +285,8 @@ mod tests {
 
     #[test]
     fn a_clean_lane_comes_back() {
-        for mode in [0, 1] {
-            let command = if mode == 0 { 0x55 } else { 0 };
+        for mode in 0..4 {
+            let command = if mode % 2 == 0 { 0x55 } else { 0 };
             let (received, lent) = received(mode, &lane(mode, 4, command));
             assert_eq!((received.refusal, received.count), (0, 3));
             assert_eq!(lent.octets[..768], user(4)[..768]);
@@ -302,38 +310,58 @@ mod tests {
 
     #[test]
     fn after_a_failed_one_only_eight_octets_are_lost() {
-        let mut lane = lane(1, 4, 0);
-        flip(&mut lane, &[1990, 2047]);
-        let (_, lent) = received(1, &lane);
-        assert_eq!(lent.statuses[..3], [4, 2, 4]);
-        assert_ne!(lent.octets[512..520], user(4)[512..520]);
-        assert_eq!(lent.octets[520..768], user(4)[520..768]);
+        for mode in [1, 3] {
+            let mut lane = lane(mode, 4, 0);
+            flip(mode, &mut lane, &[1990, 2047]);
+            let (_, lent) = received(mode, &lane);
+            assert_eq!(lent.statuses[..3], [4, 2, 4]);
+            assert_ne!(lent.octets[512..520], user(4)[512..520]);
+            assert_eq!(lent.octets[520..768], user(4)[520..768]);
+        }
     }
 
     #[test]
     fn crc_finds_and_mends_nothing() {
-        let mut lane = lane(0, 4, 9);
-        flip(&mut lane, &[700]);
-        let (_, lent) = received(0, &lane);
-        assert_eq!((lent.statuses, lent.places, lent.patterns), (vec![4, 2, 4, 0], vec![0; 4], vec![0; 4]));
+        for mode in [0, 2] {
+            let mut lane = lane(mode, 4, 9);
+            flip(mode, &mut lane, &[700]);
+            let (_, lent) = received(mode, &lane);
+            assert_eq!((lent.statuses, lent.places, lent.patterns), (vec![4, 2, 4, 0], vec![0; 4], vec![0; 4]));
+        }
+    }
+
+    #[test]
+    fn fill_bits_are_ignored() {
+        for mode in [2, 3] {
+            let mut lane = lane(mode, 4, 0);
+            flip(mode, &mut lane, &[5, 11]);
+            let mut all = bits::of_octets(&lane);
+            for (k, place) in fill_places(row(mode), 32 * 4).into_iter().enumerate() {
+                all[place] = k * k % 11 < 5;
+            }
+            assert_eq!(received(mode, &bits::octets(&all)), received(mode, &lane));
+        }
     }
 
     /// Blocks 16 to 18, 20 and 24 to 26 carry the command.
     #[test]
     fn an_invalid_header_marks_its_command() {
-        let clean = lane(0, 3, 0x7F);
-        for (block, command) in [(15, 0x7F), (16, 0xBF), (20, 0xF7), (22, 0x7F), (26, 0xFE), (27, 0x7F)] {
-            let (_, lent) = received(0, &with_headers(&clean, &[(32 + block, [true, true])]));
-            assert_eq!((lent.commands[0], lent.commands[1]), (0x7F, command));
+        for mode in [0, 2] {
+            let clean = lane(mode, 3, 0x7F);
+            for (block, command) in [(15, 0x7F), (16, 0xBF), (20, 0xF7), (22, 0x7F), (26, 0xFE), (27, 0x7F)] {
+                let (_, lent) = received(mode, &with_headers(row(mode), &clean, &[(32 + block, [true, true])]));
+                assert_eq!((lent.commands[0], lent.commands[1]), (0x7F, command));
+            }
         }
     }
 
     #[test]
     fn a_wrong_mark_or_fixed_bit_changes_only_the_count() {
-        for mode in [0, 1] {
+        for mode in 0..4 {
             let clean = lane(mode, 4, 0);
             for block in [22, 27, 31] {
-                let (state, mut lent) = received(mode, &with_headers(&clean, &[(32 * 2 + block, [false, false])]));
+                let spoilt = with_headers(row(mode), &clean, &[(32 * 2 + block, [false, false])]);
+                let (state, mut lent) = received(mode, &spoilt);
                 assert_eq!(lent.invalid, [0, 0, 1, 0]);
                 lent.invalid = vec![0; 4];
                 assert_eq!((state, lent), received(mode, &clean));
@@ -345,30 +373,38 @@ mod tests {
     /// multiblock 5 the first is 11.
     #[test]
     fn each_multiblock_has_its_own_count() {
-        for mode in [0, 1] {
+        for mode in 0..4 {
             let whole = (32..64).map(|block| (block, [false; 2])).chain((64..96).map(|block| (block, [true; 2])));
             let headers: Vec<_> = whole.chain([(128, [false; 2]), (159, [true; 2]), (160, [true; 2])]).collect();
-            let lane = with_headers(&lane(mode, 6, 0), &headers);
+            let lane = with_headers(row(mode), &lane(mode, 6, 0), &headers);
+            let octets = row(mode).lane_octets();
             let (all, lent) = received(mode, &lane);
             assert_eq!((&lent.invalid[..5], all.state.invalid), (&[0, 32, 32, 0, 2][..], 1));
             let mut lent = Lent::room_for(1);
-            let head = receive(mode, Receiver::fresh(), &lane[..528], &mut lent);
+            let head = receive(mode, Receiver::fresh(), &lane[..2 * octets], &mut lent);
             assert_eq!((&lent.invalid[..], head.state.invalid), (&[0][..], 32));
-            receive(mode, head.state, &lane[528..792], &mut lent);
+            receive(mode, head.state, &lane[2 * octets..3 * octets], &mut lent);
             assert_eq!(lent.invalid, [32]);
         }
     }
 
     #[test]
     fn a_lane_cut_anywhere_releases_the_same() {
-        let mut lane = with_headers(&lane(1, 5, 0), &[(32, [true; 2]), (127, [false; 2]), (128, [true; 2])]);
-        flip(&mut lane, &[5, 9, 13]);
-        let (whole, all) = received(1, &lane);
+        cut_anywhere(1);
+        cut_anywhere(3);
+    }
+
+    fn cut_anywhere(mode: u8) {
+        let headers = [(32, [true; 2]), (127, [false; 2]), (128, [true; 2])];
+        let mut lane = with_headers(row(mode), &lane(mode, 5, 0), &headers);
+        flip(mode, &mut lane, &[5, 9, 13]);
+        let (whole, all) = received(mode, &lane);
         for cut in 0..=5 {
+            let (head, tail) = lane.split_at(row(mode).lane_octets() * cut);
             let mut first = Lent::room_for(5);
-            let head = receive(1, Receiver::fresh(), &lane[..264 * cut], &mut first);
+            let head = receive(mode, Receiver::fresh(), head, &mut first);
             let mut second = Lent::room_for(5);
-            let tail = receive(1, head.state, &lane[264 * cut..], &mut second);
+            let tail = receive(mode, head.state, tail, &mut second);
             assert_eq!((head.count, head.count + tail.count), (cut.saturating_sub(1), 4));
             assert_eq!(tail.state, whole.state);
             let octets = [&first.octets[..256 * head.count], &second.octets[..256 * tail.count]].concat();
@@ -393,14 +429,18 @@ mod tests {
     fn refusals_of_states() {
         let check = |mode, state, refusal| assert_eq!(refusal_of(mode, state, 0, Lent::room_for(0)), refusal);
         let waiting = || Receiver { waiting: true, octets: [9; 256], history: 5, trusted: true, ..Receiver::fresh() };
-        check(2, waiting(), 1);
+        check(4, waiting(), 1);
+        check(255, waiting(), 1);
         check(0, waiting(), 0);
+        check(3, waiting(), 0);
         check(0, Receiver { history: (1 << 58) - 1, ..waiting() }, 0);
         check(0, Receiver { history: 1 << 58, ..waiting() }, 3);
-        check(0, Receiver { command: 255, ..waiting() }, 0);
-        check(0, Receiver { command: 256, ..waiting() }, 3);
-        check(1, Receiver { command: 1, ..waiting() }, 3);
-        for mode in [0, 1] {
+        for (crc12, fec) in [(0, 1), (2, 3)] {
+            check(crc12, Receiver { command: 255, ..waiting() }, 0);
+            check(crc12, Receiver { command: 256, ..waiting() }, 3);
+            check(fec, Receiver { command: 1, ..waiting() }, 3);
+        }
+        for mode in 0..4 {
             for (invalid, refusal) in [(1, 0), (32, 0), (33, 3), (255, 3)] {
                 check(mode, Receiver { invalid, ..waiting() }, refusal);
             }
@@ -419,6 +459,10 @@ mod tests {
     fn refusals_of_sizes() {
         let waiting = || Receiver { waiting: true, ..Receiver::fresh() };
         assert_eq!([263, 264, 265].map(|lane| refusal_of(0, Receiver::fresh(), lane, Lent::room_for(0))), [4, 0, 4]);
+        assert_eq!([319, 320, 321].map(|lane| refusal_of(2, Receiver::fresh(), lane, Lent::room_for(0))), [4, 0, 4]);
+        assert_eq!(refusal_of(3, Receiver::fresh(), 64_000, Lent::room_for(199)), 0);
+        assert_eq!(refusal_of(3, Receiver::fresh(), 64_000, Lent::room_for(198)), 7);
+        assert_eq!(refusal_of(3, Receiver::fresh(), 64_320, Lent::room_for(0)), 5);
         assert_eq!(refusal_of(0, Receiver::fresh(), 264 * 240, Lent::room_for(239)), 0);
         assert_eq!(refusal_of(0, Receiver::fresh(), 264 * 240, Lent::room_for(238)), 7);
         assert_eq!(refusal_of(0, Receiver::fresh(), 264 * 241, Lent::room_for(0)), 5);
@@ -437,7 +481,7 @@ mod tests {
     #[test]
     fn the_lowest_number_wins() {
         let bad = || Receiver { history: 1, ..Receiver::fresh() };
-        assert_eq!(refusal_of(2, bad(), 1, Lent::room_for(0)), 1);
+        assert_eq!(refusal_of(4, bad(), 1, Lent::room_for(0)), 1);
         assert_eq!(refusal_of(1, bad(), 1, Lent::room_for(0)), 3);
         assert_eq!(refusal_of(1, Receiver::fresh(), 264 * 241 + 1, Lent::room_for(0)), 4);
         assert_eq!(refusal_of(1, Receiver::fresh(), 264 * 241, Lent::room_for(0)), 5);

@@ -1,9 +1,11 @@
 //! The sender, bit by bit (document 01, "From octets to lane bits" and "Numbers of refusal"). The parity in a sync word
-//! belongs to the multiblock before it; the end mark is 1 in the last of E multiblocks.
+//! belongs to the multiblock before it; the end mark is 1 in the last of E multiblocks. The register of the fill bits runs
+//! on across multiblocks and calls (document 02, request 2).
 
 use crate::bits;
+use crate::fill;
 use crate::frame;
-use crate::mode::{is_extent, mode, Mode, LANE_OCTETS, MOST_MULTIBLOCKS, USER_OCTETS};
+use crate::mode::{is_extent, mode, Mode, BLOCKS, USER_OCTETS};
 use crate::polynomial::Polynomial;
 use crate::scrambler::{Scrambler, HISTORY_BITS};
 use crate::sync::Fields;
@@ -13,6 +15,7 @@ pub struct Sender {
     pub history: u64,
     pub parity: u32,
     pub number: u32,
+    pub fill: u32,
 }
 
 #[derive(Debug, PartialEq)]
@@ -25,25 +28,27 @@ pub struct Sent {
 
 impl Sender {
     pub fn fresh() -> Sender {
-        Sender { history: 0, parity: 0, number: 0 }
+        Sender { history: 0, parity: 0, number: 0, fill: 0 }
     }
 
     fn is_in_range(self, mode: &Mode, e: u32) -> bool {
-        self.history >> HISTORY_BITS == 0 && self.parity >> mode.code.width() == 0 && self.number < e
+        let fits = self.history >> HISTORY_BITS == 0 && self.parity >> mode.word.code.width() == 0;
+        fits && self.number < e && fill::is_in_range(mode, self.fill)
     }
 
     /// The state after a multiblock, and its lane bits.
     fn send_one(self, mode: &Mode, e: u32, user: &[u8], command: u32) -> (Sender, Vec<bool>) {
         let mut scrambler = Scrambler::after(self.history);
         let sent = scrambler.scramble(user);
-        let word = mode.layout.word(Fields { parity: self.parity, command, mark: self.number == e - 1 });
-        let shifted = Polynomial::of_bits(&sent).times_power(mode.code.width());
+        let code = mode.word.code;
+        let word = mode.word.layout.word(Fields { parity: self.parity, command, mark: self.number == e - 1 });
         let after = Sender {
             history: scrambler.history(),
-            parity: mode.code.remainder(&shifted),
+            parity: code.remainder(&Polynomial::of_bits(&sent).times_power(code.width())),
             number: (self.number + 1) % e,
+            fill: fill::after(mode, self.fill, BLOCKS),
         };
-        (after, frame::lane_bits(word, &sent))
+        (after, frame::lane_bits(mode, self.fill, word, &sent))
     }
 }
 
@@ -55,9 +60,9 @@ fn refusal(number: u8, e: u32, state: Sender, user: &[u8], commands: &[u32], lan
         (2, !is_extent(e)),
         (3, !state.is_in_range(mode, e)),
         (4, !user.len().is_multiple_of(USER_OCTETS)),
-        (5, multiblocks > MOST_MULTIBLOCKS),
-        (6, commands.len() != multiblocks || commands.iter().any(|command| *command > mode.highest_command)),
-        (7, lane.len() < LANE_OCTETS * multiblocks),
+        (5, multiblocks > mode.most),
+        (6, commands.len() != multiblocks || commands.iter().any(|command| *command > mode.word.highest_command)),
+        (7, lane.len() < mode.lane_octets() * multiblocks),
     ];
     refused.iter().find(|(_, applies)| *applies).map_or(0, |(number, _)| *number)
 }
@@ -69,7 +74,7 @@ pub fn send(number: u8, e: u32, state: Sender, user: &[u8], commands: &[u32], la
     let mut state = state;
     for (k, (user, command)) in user.chunks(USER_OCTETS).zip(commands).enumerate() {
         let (after, sent) = state.send_one(mode, e, user, *command);
-        lane[LANE_OCTETS * k..][..LANE_OCTETS].copy_from_slice(&bits::octets(&sent));
+        lane[mode.lane_octets() * k..][..mode.lane_octets()].copy_from_slice(&bits::octets(&sent));
         state = after;
     }
     Sent { refusal: 0, count: commands.len(), state }
@@ -80,8 +85,10 @@ mod tests {
     use super::{send, Sender, Sent};
     use crate::bits;
     use crate::code;
+    use crate::fill;
     use crate::frame::Multiblock;
     use crate::header::Headers;
+    use crate::mode::row;
     use crate::sync;
 
     fn refusal_of(number: u8, e: u32, state: Sender, user: usize, commands: &[u32], lane: usize) -> u8 {
@@ -94,63 +101,96 @@ mod tests {
         sent.refusal
     }
 
-    fn multiblocks(lane: &[u8]) -> Vec<Multiblock> {
-        lane.chunks(264).map(|octets| Multiblock::of(&bits::of_octets(octets))).collect()
+    fn multiblocks(mode: u8, lane: &[u8]) -> Vec<Multiblock> {
+        let octets = lane.chunks(row(mode).lane_octets());
+        octets.map(|octets| Multiblock::of(row(mode), &bits::of_octets(octets))).collect()
     }
 
     #[test]
     fn a_word_carries_the_parity_of_the_one_before() {
-        let mut lane = vec![0; 528];
-        let sent = send(0, 2, Sender::fresh(), &[7; 512], &[0x41, 0x7F], &mut lane);
-        let [first, second] = &multiblocks(&lane)[..] else { panic!() };
-        let word = sync::CRC12.word(sync::Fields { parity: 0, command: 0x41, mark: false });
-        assert_eq!(first.headers, Headers::carrying(word));
-        assert_eq!(sync::CRC12.parity(&second.headers), code::CRC12.parity(&bits::octets(&first.data)));
-        assert!(second.headers.at(22).carries());
-        assert_eq!(sent.state.parity, code::CRC12.parity(&bits::octets(&second.data)));
-        assert_eq!(sent.state.history, bits::number(&second.data[1990..]));
-        assert_eq!((sent.refusal, sent.count, sent.state.number), (0, 2, 0));
+        for mode in [0, 2] {
+            let mut lane = vec![0; 2 * row(mode).lane_octets()];
+            let sent = send(mode, 2, Sender::fresh(), &[7; 512], &[0x41, 0x7F], &mut lane);
+            let [first, second] = &multiblocks(mode, &lane)[..] else { panic!() };
+            let word = sync::CRC12.word(sync::Fields { parity: 0, command: 0x41, mark: false });
+            assert_eq!(first.headers, Headers::carrying(word));
+            assert_eq!(sync::CRC12.parity(&second.headers), code::CRC12.parity(&bits::octets(&first.data)));
+            assert!(second.headers.at(22).carries());
+            assert_eq!(sent.state.parity, code::CRC12.parity(&bits::octets(&second.data)));
+            assert_eq!(sent.state.history, bits::number(&second.data[1990..]));
+            assert_eq!((sent.refusal, sent.count, sent.state.number), (0, 2, 0));
+        }
+    }
+
+    /// The same sync words and scrambled bits, whatever the width and the register.
+    #[test]
+    fn a_gap_changes_no_more_than_the_gap() {
+        let user: Vec<u8> = (0..768_u32).map(|k| (k * k / 7) as u8).collect();
+        for (narrow, wide) in [(0, 2), (1, 3)] {
+            let mut lanes = [vec![0; 264 * 3], vec![0; 320 * 3]];
+            let one = send(narrow, 2, Sender::fresh(), &user, &[0; 3], &mut lanes[0]);
+            let other = send(wide, 2, Sender { fill: 99, ..Sender::fresh() }, &user, &[0; 3], &mut lanes[1]);
+            let [one_seen, other_seen] = [multiblocks(narrow, &lanes[0]), multiblocks(wide, &lanes[1])];
+            for (one, other) in one_seen.iter().zip(&other_seen) {
+                assert_eq!((&one.headers, &one.data), (&other.headers, &other.data));
+            }
+            assert_eq!(other.state, Sender { fill: fill::after(row(wide), 99, 96), ..one.state });
+            assert_eq!(one.state.fill, 0);
+        }
     }
 
     #[test]
     fn the_end_mark_is_in_every_last() {
-        let mut lane = vec![0; 264 * 7];
-        let sent = send(1, 3, Sender { number: 1, ..Sender::fresh() }, &[0; 256 * 7], &[0; 7], &mut lane);
-        let marked = |multiblock: &Multiblock| u8::from(multiblock.headers.at(22).carries());
-        let marks: Vec<u8> = multiblocks(&lane).iter().map(marked).collect();
-        assert_eq!((marks, sent.state.number), (vec![0, 1, 0, 0, 1, 0, 0], 2));
+        for mode in [1, 3] {
+            let mut lane = vec![0; row(mode).lane_octets() * 7];
+            let sent = send(mode, 3, Sender { number: 1, ..Sender::fresh() }, &[0; 256 * 7], &[0; 7], &mut lane);
+            let marked = |multiblock: &Multiblock| u8::from(multiblock.headers.at(22).carries());
+            let marks: Vec<u8> = multiblocks(mode, &lane).iter().map(marked).collect();
+            assert_eq!((marks, sent.state.number), (vec![0, 1, 0, 0, 1, 0, 0], 2));
+        }
     }
 
     #[test]
     fn a_lane_cut_into_calls_is_the_same() {
         let user: Vec<u8> = (0..1024_u32).map(|k| (k * k / 3) as u8).collect();
-        let mut whole = vec![0; 1056];
-        let all = send(1, 3, Sender::fresh(), &user, &[0; 4], &mut whole);
-        let mut parts = vec![0; 1056];
-        let first = send(1, 3, Sender::fresh(), &user[..256], &[0], &mut parts);
-        let none = send(1, 3, first.state, &[], &[], &mut []);
-        let rest = send(1, 3, none.state, &user[256..], &[0; 3], &mut parts[264..]);
-        assert_eq!((none.count, none.state), (0, first.state));
-        assert_eq!((parts, rest.state), (whole, all.state));
+        for mode in [1, 3] {
+            let octets = row(mode).lane_octets();
+            let mut whole = vec![0; 4 * octets];
+            let all = send(mode, 3, Sender::fresh(), &user, &[0; 4], &mut whole);
+            let mut parts = vec![0; 4 * octets];
+            let first = send(mode, 3, Sender::fresh(), &user[..256], &[0], &mut parts);
+            let none = send(mode, 3, first.state, &[], &[], &mut []);
+            let rest = send(mode, 3, none.state, &user[256..], &[0; 3], &mut parts[octets..]);
+            assert_eq!((none.count, none.state), (0, first.state));
+            assert_eq!((parts, rest.state), (whole, all.state));
+        }
     }
 
     #[test]
     fn octets_past_the_end_keep_their_values() {
-        let mut lane = vec![0xA5; 300];
+        let mut lane = vec![0xA5; 350];
+        send(2, 1, Sender::fresh(), &[0; 256], &[0], &mut lane);
+        assert_eq!(lane[320..], [0xA5; 30]);
+        lane.fill(0xA5);
         send(0, 1, Sender::fresh(), &[0; 256], &[0], &mut lane);
-        assert_eq!(lane[264..], [0xA5; 36]);
+        assert_eq!(lane[264..], [0xA5; 86]);
     }
 
     #[test]
     fn refusals_at_their_edges() {
         let fresh = Sender::fresh();
-        assert_eq!(refusal_of(2, 1, fresh, 0, &[], 0), 1);
+        assert_eq!([3, 4, 255].map(|mode| refusal_of(mode, 1, fresh, 0, &[], 0)), [0, 1, 1]);
         assert_eq!([0, 1, 256, 257].map(|e| refusal_of(0, e, fresh, 0, &[], 0)), [2, 0, 0, 2]);
         for (history, refused) in [((1 << 58) - 1, 0), (1 << 58, 3)] {
             assert_eq!(refusal_of(0, 1, Sender { history, ..fresh }, 0, &[], 0), refused);
         }
         for (number, parity, refused) in [(0, 0xFFF, 0), (0, 0x1000, 3), (1, 0x3FF_FFFF, 0), (1, 0x400_0000, 3)] {
-            assert_eq!(refusal_of(number, 1, Sender { parity, ..fresh }, 0, &[], 0), refused);
+            for mode in [number, number + 2] {
+                assert_eq!(refusal_of(mode, 1, Sender { parity, ..fresh }, 0, &[], 0), refused);
+            }
+        }
+        for (fill, refused) in [(0, [0; 4]), (1, [3, 3, 0, 0]), (131_070, [3, 3, 0, 0]), (131_071, [3; 4])] {
+            assert_eq!([0, 1, 2, 3].map(|mode| refusal_of(mode, 1, Sender { fill, ..fresh }, 0, &[], 0)), refused);
         }
         for (e, number, refused) in [(1, 0, 0), (1, 1, 3), (256, 255, 0), (256, 256, 3)] {
             assert_eq!(refusal_of(0, e, Sender { number, ..fresh }, 0, &[], 0), refused);
@@ -158,18 +198,23 @@ mod tests {
         assert_eq!([255, 256, 257].map(|user| refusal_of(0, 1, fresh, user, &[0], 264)), [4, 0, 4]);
         assert_eq!(refusal_of(0, 1, fresh, 256 * 240, &[0; 240], 264 * 240), 0);
         assert_eq!(refusal_of(0, 1, fresh, 256 * 241, &[0; 241], 264 * 241), 5);
+        assert_eq!(refusal_of(2, 1, fresh, 256 * 200, &[0; 200], 320 * 200), 0);
+        assert_eq!(refusal_of(2, 1, fresh, 256 * 201, &[0; 201], 320 * 201), 5);
         assert_eq!(
             [&[][..], &[127], &[128], &[0, 0]].map(|list| refusal_of(0, 1, fresh, 256, list, 264)),
             [6, 0, 6, 6]
         );
         assert_eq!([0, 1].map(|command| refusal_of(1, 1, fresh, 256, &[command], 264)), [0, 6]);
+        assert_eq!([127, 128].map(|command| refusal_of(2, 1, fresh, 256, &[command], 320)), [0, 6]);
+        assert_eq!([0, 1].map(|command| refusal_of(3, 1, fresh, 256, &[command], 320)), [0, 6]);
         assert_eq!([263, 264].map(|lane| refusal_of(0, 1, fresh, 256, &[0], lane)), [7, 0]);
+        assert_eq!([319, 320].map(|lane| refusal_of(2, 1, fresh, 256, &[0], lane)), [7, 0]);
     }
 
     #[test]
     fn the_lowest_number_wins() {
         let bad = Sender { history: 1 << 58, ..Sender::fresh() };
-        assert_eq!(refusal_of(2, 0, bad, 1, &[128], 0), 1);
+        assert_eq!(refusal_of(4, 0, bad, 1, &[128], 0), 1);
         assert_eq!(refusal_of(1, 0, bad, 1, &[128], 0), 2);
         assert_eq!(refusal_of(1, 1, bad, 1, &[128], 0), 3);
         assert_eq!(refusal_of(1, 1, Sender::fresh(), 256 * 241 + 1, &[128], 0), 4);

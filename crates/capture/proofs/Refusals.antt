@@ -16,10 +16,10 @@ use Rattle.bits.proofs.Tests.{left, right}
 use Rattle.bits.proofs.Refusals.{Given, first, later, given, passed, none-left, not-given, whenever, only-when}
 use Rattle.frame.specs.declared.modes.Row.{Row}
 use Rattle.frame.specs.declared.modes.Numbers.{Numbers}
-use Rattle.frame.specs.Modes.{known, row, numbersOf, longestLane, extentFits}
+use Rattle.frame.specs.Modes.{known, row, numbersOf, extentFits}
 use Rattle.frame.specs.Lane.{laneOctets}
 use Rattle.capture.specs.declared.Opened.{Opened}
-use Rattle.capture.specs.Form.{modeOf, extentOf, laneOf, longestOf, wellFormed, refusals, refusalOf, opened}
+use Rattle.capture.specs.Form.{modeOf, extentOf, laneOf, limitedBy, longestOf, wellFormed, refusals, refusalOf, opened}
 
 pub lane-length : (capture : List ℕ) → length (laneOf capture) ≡ length capture - 11
 unfolding laneOf
@@ -27,13 +27,9 @@ lane-length capture = length-drop 11 capture
 
 -- ---- the most lane octets
 
-pub longest-known : (mode : ℕ) → known mode ≡ true → longestOf mode ≡ laneOctets (row mode .gap) * row mode .most
-unfolding longestOf
+longest-known : (mode : ℕ) → known mode ≡ true → longestOf mode ≡ laneOctets (row mode .gap) * row mode .most
+unfolding longestOf limitedBy
 longest-known mode e = rw e
-
-pub longest-unknown : (mode : ℕ) → known mode ≡ false → longestOf mode ≡ longestLane
-unfolding longestOf
-longest-unknown mode e = rw e
 
 -- as code multiplies it
 pub longest-product : (mode : ℕ) (R : Row) (N : Numbers) → R ≡ row mode → N ≡ numbersOf R → N .octets * R .most ≡ laneOctets (row mode .gap) * row mode .most

@@ -1,6 +1,6 @@
 -- A buffer of as many octets as the longest text has room for the listing of every accepted capture. Document 01, "Capture and listing". Assumes
 -- nothing.
-use mathlib.Core.Path.{_≡_, refl, sym, ap, _∙_}
+use mathlib.Core.Path.{_≡_, sym, ap, _∙_}
 use mathlib.Core.Logic.{_⊎_, inl, inr}
 use mathlib.Core.Bool.{true, true≢false}
 use mathlib.Core.List.{List, []}
@@ -27,7 +27,7 @@ use Rattle.receiver.proofs.Verdicts.{Released, release-cases}
 use Rattle.text.specs.declared.Listed.{Listed}
 use Rattle.text.specs.Writing.{Done, done}
 use Rattle.text.proofs.Refusals.{Counted, counted, whole}
-use Rattle.text.proofs.Short.{Few, text-short}
+use Rattle.text.proofs.Short.{Few, text-short, listing-short as lines-short}
 use Rattle.capture.specs.Form.{modeOf, extentOf, laneOf, refusalOf}
 use Rattle.capture.specs.Listing.{receivedIn, releasesOf, laneText, listingOf, longestText, listingRefusals, listed}
 use Rattle.capture.proofs.Refusals.{refusal-below, accepted, still-refused, not-yet-refused}
@@ -105,6 +105,8 @@ listing-short capture z =
           (omega (arith, within, most-is)) (omega (arith, within, most-is, number)) (few-listed R lane),
       number,
       within,
+      lines-short (modeOf capture),
+      received-few (modeOf capture) lane (ok .short),
     )
 
 -- ---- so that no capture is refused for want of room; what is counted stands in the text, which keeps its length

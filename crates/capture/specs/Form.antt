@@ -1,4 +1,4 @@
--- The form of a capture: document 01, "Capture and listing". Two sections, each after its count in four octets, highest first: the settings
+-- The form of a capture: document 01, "Capture and listing"; request 2. Two sections, each after its count in four octets, highest first: the settings
 -- (mode, and E in two octets), and the lane octets. Nothing follows. Assumes nothing.
 use mathlib.Core.Bool.{Bool, not, _&&_}
 use mathlib.Core.List.{List, [], _∷_}
@@ -8,7 +8,7 @@ use lib.ListN.{length, getD, drop}
 use Rattle.bits.specs.Choice.{pick}
 use Rattle.bits.specs.Order.{bitAt, number}
 use Rattle.bits.specs.Refusals.{Line, _when_, refusalBy}
-use Rattle.frame.specs.Modes.{known, row, longestLane, extentFits}
+use Rattle.frame.specs.Modes.{known, row, extentFits}
 use Rattle.frame.specs.Lane.{laneOctets}
 use Rattle.capture.specs.declared.Opened.{Opened}
 
@@ -21,11 +21,14 @@ extentOf capture = number (bitAt capture) 40 16
 unfoldable pub laneOf : List ℕ → List ℕ
 laneOf capture = drop 11 capture
 
--- the lane octets of a mode's longest call; of any mode's, where the number is no mode's
-unfoldable pub longestOf : ℕ → ℕ
-longestOf mode = pick (known mode) (laneOctets (row mode .gap) * row mode .most) longestLane
+-- the mode whose longest call says how long a capture may be: its own, and mode 0 where its own is unknown
+unfoldable pub limitedBy : ℕ → ℕ
+limitedBy mode = pick (known mode) mode 0
 
--- the two counts are right, and there are no more lane octets than one call takes: 63,371 octets in all
+unfoldable pub longestOf : ℕ → ℕ
+longestOf mode = laneOctets (row (limitedBy mode) .gap) * row (limitedBy mode) .most
+
+-- the two counts are right, and there are no more lane octets than one call takes: 63,371 octets in all, and 64,011 in modes 2 and 3
 unfoldable pub wellFormed : List ℕ → Bool
 wellFormed capture =
     (leb 11 (length capture) && leb (length capture) (11 + longestOf (modeOf capture)))

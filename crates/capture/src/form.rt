@@ -1,9 +1,9 @@
-// The form of a capture: document 01, "Capture and listing". Two sections, each after its count in four octets, highest first.
+// The form of a capture: document 01, "Capture and listing"; request 2. Two sections, each after its count in four octets, highest first.
 ghost use mathlib.Core.Path.{_≡_};
 ghost use Prim.Native.Nat.{_*_, _≤_};
 ghost use Rattle.bits.specs.Order.{bitAt, number};
 ghost use Rattle.frame.specs.Modes.{longestLane};
-ghost use Rattle.capture.specs.Form.{longestOf, wellFormed, extentOf, refusalOf};
+ghost use Rattle.capture.specs.Form.{limitedBy, longestOf, wellFormed, extentOf, refusalOf};
 use frame::modes;
 
 // The count of a section, which stands before it.
@@ -13,14 +13,18 @@ fn count_at(capture: &[u8], at: usize) -> u64
     bits::word_at(capture, at) >> 32
 }
 
-// The most lane octets of a capture, by its mode where that is known.
+// The mode by which the length of a capture is limited: an unknown one has mode 0's.
+fn limited_by(mode: u8) -> u8
+    ensures { λ r. ⌜ r ≡ limitedBy mode ⌝ }
+{
+    if modes::known(mode) { mode } else { 0 }
+}
+
+// The most lane octets of a capture.
 fn longest_of(mode: u8) -> usize
     ensures { λ r. ⌜ (r ≡ longestOf mode) × (r ≤ longestLane) ⌝ }
 {
-    if !modes::known(mode) {
-        return modes::LONGEST_LANE;
-    }
-    let row = modes::row_of(mode);
+    let row = modes::row_of(limited_by(mode));
     let numbers = modes::numbers_of(row);
     numbers.octets * row.most
 }

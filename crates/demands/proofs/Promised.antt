@@ -2,25 +2,36 @@
 use mathlib.Core.Path.{_≡_, refl, sym, ap, _∙_, subst}
 use mathlib.Core.Logic.{_⊎_, ⊎-elim, inl, inr}
 use mathlib.Core.Bool.{Bool, true, false}
+use mathlib.Core.List.{List}
 use Prim.Native.Nat.{ℕ, zero, suc, _+_, _-_, _*_, _<_, _≤_}
-use native.Mathlib.Nat.{mul-le-mul-left}
+use native.Mathlib.Nat.{mul-le-mul-left, le-of-mul-le-mul-left}
 use native.Mathlib.Omega.{arith}
 use lib.Bits.{xor-lt}
-use Rattle.bits.specs.Order.{listFrom}
+use lib.ListN.{length}
+use Rattle.bits.specs.Order.{bitAt, listFrom}
 use Rattle.bits.proofs.Numbers.{bitAt-lt}
 use Rattle.bits.proofs.Ones.{ones-none}
 use Rattle.parity.specs.Codeword.{Code}
 use Rattle.frame.specs.Modes.{code, repairs, row}
-use Rattle.frame.specs.Lane.{blockWidth, laneOctets, headerPlace, dataPlace}
+use Rattle.fill.specs.Register.{shifts}
+use Rattle.frame.specs.Lane.{blockWidth, laneOctets, headerPlace, dataPlace, fillPlace}
 use Rattle.parity.proofs.Bursts.{one-burst}
 use Rattle.parity.proofs.Sets.{one-set}
 use Rattle.frame.proofs.Reading.{invalid-flips}
+use Rattle.fill.proofs.Registers.{moves}
+use Rattle.frame.proofs.Sizes.{octets-some}
+use Rattle.frame.proofs.Lane.{fill-bound}
 use Rattle.frame.proofs.Rows.{limit-some}
+use Rattle.sender.proofs.Runs.{lane-length}
+use Rattle.sender.proofs.Entry.{answered, fits}
+use Rattle.sender.proofs.Multiblocks.{fill-sent}
+use Rattle.receiver.proofs.Ignored.{gaps-ignored}
 use Rattle.judge.specs.Sound.{sound}
-use Rattle.demands.specs.Calls.{laneHeard}
+use Rattle.demands.specs.Calls.{userOctets, laneSent, laneHeard}
 use Rattle.demands.specs.Transfer.{Transfer, flips, DamagedBy, Untouched, releases, released, status, given, headerFlips}
-use Rattle.demands.specs.Promises.{Limits, FecDelivers, CrcTellsHits, CrcUntouchedSound, SoundTrue, FecSoundTrue, CrcSoundTrue, InvalidTold, InvalidByFlips, UntouchedValid, BurstsByPairs, OneBurst, OneSet, LocksInTime, DozenRight}
+use Rattle.demands.specs.Promises.{Limits, FecDelivers, CrcTellsHits, CrcUntouchedSound, SoundTrue, FecSoundTrue, CrcSoundTrue, InvalidTold, InvalidByFlips, UntouchedValid, FillIgnored, FillByTable, NeverStill, BurstsByPairs, OneBurst, OneSet, LocksInTime, DozenRight}
 use Rattle.demands.proofs.Places.{header-inside, header-from-start}
+use Rattle.demands.proofs.Sent.{allCommands, one-lane}
 use Rattle.demands.proofs.Pairs.{pairs, in-bursts}
 use Rattle.demands.proofs.Locks.{locks-in-time}
 use Rattle.demands.proofs.Dozen.{all-right}
@@ -111,6 +122,28 @@ untouched-valid mode E t i l u =
     let firsts = ones-none (λ b. flips t (headerPlace g i b)) (λ b. bits (headerPlace g i b)) 32 (λ b h. clear _ (header-from-start g i b) (omega (arith, header-inside g i b h))) in
     let seconds = ones-none (λ b. flips t (headerPlace g i b + 1)) (λ b. bits (headerPlace g i b + 1)) 32 (λ b h. clear _ (omega (arith, header-from-start g i b)) (header-inside g i b h)) in
     omega (arith, invalid-by-flips mode E t i l, firsts, seconds)
+
+-- ---- fill bits
+
+pub fill-ignored : FillIgnored
+fill-ignored mode s c other long same =
+    gaps-ignored mode s (c .lane) other (c .octets) (c .statuses) (c .commands) (c .places) (c .patterns) (c .invalid) long same
+
+pub fill-by-table : FillByTable
+fill-by-table mode E gaps s calls sent m t j inside ht hj =
+    let one = one-lane mode E s calls sent in
+    let n = length (allCommands calls) in
+    let L = laneOctets (row mode .gap) in
+    let long : length (laneSent mode E s calls) ≡ L * n = ap length (one .made) ∙ lane-length (row mode) E s (userOctets calls) (allCommands calls) in
+    let within : m + 1 ≤ n = le-of-mul-le-mul-left (subst (λ (x : ℕ). L * (m + 1) ≤ x) long inside) (octets-some (row mode .gap)) in
+    let fits = one .ready (omega arith) .0 .fill in
+    ap (λ (l : List ℕ). bitAt l (fillPlace (row mode .gap) m t j)) (one .made)
+    ∙ fill-sent (row mode) E s (userOctets calls) (allCommands calls) (omega (arith, one .given)) gaps (omega (arith, fits, fill-bound (row mode .gap) gaps)) m t j (omega arith) ht hj
+
+pub never-still : NeverStill
+never-still mode E gaps s c z m t =
+    let accepted = sym (answered mode E s (c .user) (c .commands) (c .lane)) ∙ z in
+    moves (s .fill) (shifts * (32 * m + t)) (subst (λ (x : ℕ). s .fill < x) (fill-bound (row mode .gap) gaps) (fits mode E s (c .user) (c .commands) (c .lane) accepted .fill))
 
 -- ---- the premise, burst uniqueness, the locks, the dozen
 

@@ -10,13 +10,17 @@ use Rattle.parity.specs.Codeword.{Code, fec, remainderOf}
 use Rattle.parity.specs.Bursts.{BurstSet, IsBurst, flips as burstFlips}
 use Rattle.frame.specs.declared.modes.Sync.the-variants.{Crc12}
 use Rattle.frame.specs.Modes.{code, repairs, rows, known, row}
-use Rattle.frame.specs.Lane.{blockWidth, laneOctets, dataPlace, valueAt, invalidHeaders}
+use Rattle.fill.specs.Register.{registerAfter, shifts, still}
+use Rattle.fill.specs.Table38.{fillBit}
+use Rattle.frame.specs.Lane.{blockWidth, laneOctets, dataPlace, fillPlace, inGap, valueAt, invalidHeaders}
 use Rattle.sender.specs.declared.Sender.{Sender}
 use Rattle.judge.specs.Sound.{sound}
+use Rattle.receiver.specs.declared.Receiver.{Receiver}
+use Rattle.receiver.specs.Entry as receiver
 use Rattle.lock.specs.Run.{stateAfter}
 use Rattle.lock.specs.Stream.{Held}
 use Rattle.demands.specs.Damage.{InBursts, Pairwise}
-use Rattle.demands.specs.Calls.{Sending, AllSent, laneSent, laneHeard}
+use Rattle.demands.specs.Calls.{Sending, sending, AllSent, laneSent, Receiving, receiving, laneHeard}
 use Rattle.demands.specs.Transfer.{Transfer, flips, DamagedBy, Untouched, releases, released, status, invalidTold, given, headerFlips}
 use Rattle.demands.specs.Dozen.{Case, Right, dozen}
 
@@ -32,9 +36,9 @@ clearOf mode = 2 * (8 * laneOctets (row mode .gap))
 abbrev pub Damaged : {mode E : ℕ} → Transfer mode E → Type 0
 Damaged {mode} t = DamagedBy t (limitOf mode) (clearOf mode)
 
--- mode by mode: CRC-12, FEC
+-- mode by mode: CRC-12 and FEC in blocks of 66 bits, and the same in blocks of 80
 abbrev pub Limits : Type 0
-Limits = (listFrom limitOf 0 (length rows) ≡ 12 ∷ 9 ∷ []) × (listFrom clearOf 0 (length rows) ≡ 4224 ∷ 4224 ∷ [])
+Limits = (listFrom limitOf 0 (length rows) ≡ 12 ∷ 9 ∷ 12 ∷ 9 ∷ []) × (listFrom clearOf 0 (length rows) ≡ 4224 ∷ 4224 ∷ 5120 ∷ 5120 ∷ [])
 
 -- ---- demand 3 with a code that repairs: FEC
 
@@ -85,6 +89,32 @@ InvalidByFlips = (mode E : ℕ) (t : Transfer mode E) (i : ℕ) → i < releases
 -- and 0 where the multiblock was untouched
 abbrev pub UntouchedValid : Type 0
 UntouchedValid = (mode E : ℕ) (t : Transfer mode E) (i : ℕ) → i < releases t → Untouched t i (i + 1) → invalidTold t i ≡ 0
+
+-- ---- fill bits (request 2)
+
+-- whatever stands in the gaps, a call of the receiver answers the same and leaves the same in every buffer, or refuses both lanes alike
+abbrev pub FillIgnored : Type 0
+FillIgnored =
+    (mode : ℕ) (s : Receiver) (c : Receiving) (other : List ℕ) → length (c .lane) ≡ length other
+    → ((x : ℕ) → inGap (row mode .gap) x ≡ false → bitAt (c .lane) x ≡ bitAt other x)
+    → receiving mode s c ≡ receiver.entry mode s other (c .octets) (c .statuses) (c .commands) (c .places) (c .patterns) (c .invalid)
+
+-- the register of block t of multiblock m of a lane: as many blocks took it before, from the state in which the first call began
+abbrev pub registerOf : Sender → ℕ → ℕ → ℕ
+registerOf s m t = registerAfter (s .fill) (shifts * (32 * m + t))
+
+-- every fill bit of a lane that our sender made is Table 38's of its block's register
+abbrev pub FillByTable : Type 0
+FillByTable =
+    (mode E : ℕ) → (row mode .gap ≡ 0 → ⊥) → (s : Sender) (calls : List Sending) → AllSent mode E s calls
+    → (m t j : ℕ) → laneOctets (row mode .gap) * (m + 1) ≤ length (laneSent mode E s calls) → t < 32 → j < 7 * row mode .gap
+    → bitAt (laneSent mode E s calls) (fillPlace (row mode .gap) m t j) ≡ fillBit (registerOf s m t) j
+
+-- and no block of a sender in an accepted state takes the register that stands still
+abbrev pub NeverStill : Type 0
+NeverStill =
+    (mode E : ℕ) → (row mode .gap ≡ 0 → ⊥) → (s : Sender) (c : Sending) → sending mode E s c .answer .refusal ≡ 0
+    → (m t : ℕ) → registerOf s m t < still
 
 -- ---- the premise by bursts and by pairs says the same, where two bursts are no longer than the clear bits
 

@@ -2,7 +2,7 @@
 pub mod SyncWord
 pub mod Fields
 pub mod Lane
-pub mod Packing
+pub mod Gathering
 pub mod Sizes
 pub mod Places
 pub mod Reading

@@ -1,14 +1,17 @@
 -- Where bits stand on a lane, as a number and a multiple of the gap, so that distances are sums; and what is read there: clauses 7.1.2 and
 -- 7.1.3. Assumes nothing.
 use mathlib.Core.Path.{_≡_, refl, ap, ap₂, _∙_}
-use Prim.Native.Nat.{ℕ, _+_, _*_, _/_, _%_, _<_}
-use native.Mathlib.Nat.{add-mul, mul-add, mul-assoc, mul-comm}
+use mathlib.Core.Bool.{Bool, true, false, _&&_}
+use Prim.Native.Nat.{ℕ, _+_, _-_, _*_, _/_, _%_, _≤_, _<_}
+use native.Mathlib.Nat.{add-mul, mul-add, mul-assoc, mul-comm, mul-le-mul-left, mul-add-mod-self-left, mod-eq-of-lt}
 use native.Mathlib.Omega.{arith}
+use borrow.Author.Tests.{le-leb, lt-leb}
+use lib.Dec.{leb}
 use Rattle.bits.specs.Order.{bitAt}
 use Rattle.bits.proofs.Octets.{bit-octetsOf}
 use Rattle.frame.specs.Headers.{value, headerRead}
-use Rattle.frame.specs.Lane.{blockWidth, laneOctets, headerPlace, dataPlace, dataBit, firstBit, secondBit, valueAt, headerAt, dataOctets}
-use Rattle.frame.proofs.Lane.{dataBit-lt}
+use Rattle.frame.specs.Lane.{blockWidth, laneOctets, headerPlace, dataPlace, inGap, dataBit, firstBit, secondBit, valueAt, headerAt, dataOctets}
+use Rattle.frame.proofs.Lane.{offset-of, offset-lt, dataBit-lt}
 
 blocks : (gap t : ℕ) → blockWidth gap * t ≡ 66 * t + gap * (7 * t)
 unfolding blockWidth
@@ -34,6 +37,47 @@ start-form gap m =
     let c = mul-assoc (blockWidth gap) 32 m in
     let d = ap (λ (x : ℕ). x * m) (mul-comm (blockWidth gap) 32) in
     omega arith
+
+-- ---- what stands in a gap: the fill bits, no header and no data bit
+
+module _ (gap : ℕ) where
+  in-block : (b o : ℕ) → o < blockWidth gap → inGap gap (blockWidth gap * b + o) ≡ (leb 2 o && leb 8 ((o - 2) % (8 + gap)))
+  unfolding inGap
+  in-block b o h = ap (λ (x : ℕ). leb 2 x && leb 8 ((x - 2) % (8 + gap))) (offset-of gap b o h)
+
+  -- behind the header: bit j of the octet and the gap that have number k
+  behind : (b k j : ℕ) → j < 8 + gap → 2 + ((8 + gap) * k + j) < blockWidth gap → inGap gap (blockWidth gap * b + (2 + ((8 + gap) * k + j))) ≡ leb 8 j
+  behind b k j h l =
+      let o = (8 + gap) * k + j in
+      in-block b (2 + o) l
+      ∙ ap₂ (λ (t : Bool) (x : ℕ). t && leb 8 x) (le-leb 2 (2 + o) (omega arith))
+      (ap (λ (x : ℕ). x % (8 + gap)) {x = 2 + o - 2} {y = o} (omega arith) ∙ mul-add-mod-self-left (8 + gap) k j ∙ mod-eq-of-lt h)
+
+  pub header-in-none : (m t : ℕ) → inGap gap (headerPlace gap m t) ≡ false
+  unfolding headerPlace blockWidth
+  header-in-none m t = ap (inGap gap) (omega arith) ∙ in-block (32 * m + t) 0 (omega arith)
+
+  pub second-in-none : (m t : ℕ) → inGap gap (headerPlace gap m t + 1) ≡ false
+  unfolding headerPlace blockWidth
+  second-in-none m t = in-block (32 * m + t) 1 (omega arith)
+
+  pub data-in-none : (m q : ℕ) → inGap gap (dataPlace gap m q) ≡ false
+  unfolding dataPlace headerPlace
+  data-in-none m q =
+      let r = q % 64 in
+      let form : 2 + r + gap * (r / 8) ≡ 2 + ((8 + gap) * (r / 8) + r % 8) = omega (arith, add-mul 8 gap (r / 8)) in
+      ap (inGap gap) (omega (arith, form))
+      ∙ behind (32 * m + q / 64) (r / 8) (r % 8) (omega arith) (omega (arith, form, offset-lt gap r (omega arith)))
+      ∙ lt-leb 8 (r % 8) (omega arith)
+
+  -- bit i of the gap behind octet k
+  pub fill-in-gap : (m t k i : ℕ) → k < 7 → i < gap → inGap gap (headerPlace gap m t + (10 + (8 + gap) * k + i)) ≡ true
+  unfolding headerPlace blockWidth
+  fill-in-gap m t k i hk hi =
+      let last : (8 + gap) * k ≤ (8 + gap) * 6 = mul-le-mul-left (8 + gap) (omega arith) in
+      ap (inGap gap) (omega arith)
+      ∙ behind (32 * m + t) k (8 + i) (omega arith) (omega (arith, last))
+      ∙ le-leb 8 (8 + i) (omega arith)
 
 -- ---- what is read there
 

@@ -15,8 +15,7 @@ use Rattle.frame.specs.declared.modes.Sync.{Sync}
 use Rattle.frame.specs.declared.modes.Sync.the-variants.{Crc12, Fec}
 use Rattle.frame.specs.declared.modes.Row.{Row}
 use Rattle.frame.specs.Lane.{blockWidth, laneOctets}
-use Rattle.frame.specs.Modes.{mark, layout, code, rows, noRow, row, mostOfAll, longestLane, extentFits}
-use Rattle.frame.specs.SyncWord.{key, position}
+use Rattle.frame.specs.Modes.{code, rows, noRow, row, mostOfAll, longestLane, extentFits}
 
 -- ---- of every sync word
 
@@ -44,26 +43,22 @@ pub of-each : (P : Row → Type 0) → Each P rows → P noRow → (mode : ℕ) 
 unfolding row
 of-each P e n mode = each-at P rows e n mode
 
--- blocks of 66 bits
-pub no-gap : (mode : ℕ) → row mode .gap ≡ 0
-no-gap = of-each (λ (R : Row). R .gap ≡ 0) (refl, (refl, tt)) refl
-
 -- no call takes more than the most of all
 pub few : (mode : ℕ) → row mode .most ≤ mostOfAll
 unfolding mostOfAll
-few = of-each (λ (R : Row). R .most ≤ mostOfAll) (lit≤ tt, (lit≤ tt, tt)) (lit≤ tt)
+few = of-each (λ (R : Row). R .most ≤ mostOfAll) (lit≤ tt, (lit≤ tt, (lit≤ tt, (lit≤ tt, tt)))) (lit≤ tt)
 
 pub most-is : mostOfAll ≡ 240
 unfolding mostOfAll
 most-is = refl
 
-pub longest-is : longestLane ≡ 63360
+pub longest-is : longestLane ≡ 64000
 unfolding longestLane laneOctets blockWidth
 longest-is = refl
 
 pub lane-within : (mode : ℕ) → laneOctets (row mode .gap) * row mode .most ≤ longestLane
 unfolding longestLane laneOctets blockWidth
-lane-within = of-each (λ (R : Row). laneOctets (R .gap) * R .most ≤ longestLane) (lit≤ tt, (lit≤ tt, tt)) (lit≤ tt)
+lane-within = of-each (λ (R : Row). laneOctets (R .gap) * R .most ≤ longestLane) (lit≤ tt, (lit≤ tt, (lit≤ tt, (lit≤ tt, tt)))) (lit≤ tt)
 
 -- the lane of as many multiblocks as a call takes
 pub lane-fits : (mode k : ℕ) → k ≤ row mode .most → laneOctets (row mode .gap) * k ≤ longestLane

@@ -1,4 +1,4 @@
--- The modes, one row each: document 01, "From octets to lane bits"; clauses 7.1, 7.3.4 and 7.3.6. Assumes nothing.
+-- The modes, one row each: document 01, "From octets to lane bits"; request 2; clauses 7.1, 7.3.4 and 7.3.6. Assumes nothing.
 use mathlib.Core.Bool.{Bool, true, false, _&&_}
 use mathlib.Core.List.{List, [], _∷_, _++_}
 use Prim.Native.Nat.{ℕ, zero, suc, _+_, _*_, _^_}
@@ -10,7 +10,7 @@ use Rattle.frame.specs.declared.modes.Sync.{Sync}
 use Rattle.frame.specs.declared.modes.Sync.the-variants.{Crc12, Fec}
 use Rattle.frame.specs.declared.modes.Row.{Row}
 use Rattle.frame.specs.declared.modes.Numbers.{Numbers}
-use Rattle.frame.specs.Lane.{blockWidth, laneOctets}
+use Rattle.frame.specs.Lane.{blockWidth, laneOctets, fillBound}
 
 -- ---- sync words
 
@@ -63,6 +63,8 @@ abbrev pub rows : List Row
 rows =
     record { sync = Crc12; gap = 0; most = 240 }
     ∷ record { sync = Fec; gap = 0; most = 240 }
+    ∷ record { sync = Crc12; gap = 2; most = 200 }
+    ∷ record { sync = Fec; gap = 2; most = 200 }
     ∷ []
 
 abbrev pub known : ℕ → Bool
@@ -81,6 +83,7 @@ numbersOf R = record {
   parities = 2 ^ code (R .sync) .width;
   commands = 2 ^ commandWidth (R .sync);
   flagged = flaggedBound (R .sync);
+  fills = fillBound (R .gap);
   octets = laneOctets (R .gap);
   width = blockWidth (R .gap);
   repairs = repairs (R .sync);

@@ -1,6 +1,7 @@
-// The modes and their numbers, which no other place in the code has: document 01, "From octets to lane bits" and "Numbers of refusal"; clauses
-// 7.1, 7.3.4 and 7.3.6. A row is a mode's sync word, the bits between the data octets of its blocks, and the multiblocks that one call takes.
+// The modes and their numbers, which no other place in the code has: document 01, "From octets to lane bits" and "Numbers of refusal"; request 2;
+// clauses 7.1, 7.3.4 and 7.3.6. A row is a mode's sync word, the bits between the data octets of its blocks, and the multiblocks that one call takes.
 ghost use mathlib.Core.Path.{_≡_};
+ghost use Rattle.frame.specs.Lane.{fillBound};
 ghost use Rattle.frame.specs.Modes.{known, row, numbersOf, extentFits, mostOfAll, longestLane};
 
 // What a sync word carries: the parity of CRC-12 and a command, or the parity of FEC.
@@ -15,12 +16,13 @@ pub struct Row {
     pub most: usize,
 }
 
-// What follows from a row: parities, commands and commands with their flag are below these; octets of a multiblock on the lane, and bits of a
-// block; whether a burst is flipped back.
+// What follows from a row: parities, commands, commands with their flag and fill registers are below these; octets of a multiblock on the lane,
+// and bits of a block; whether a burst is flipped back.
 pub struct Numbers {
     pub parities: u32,
     pub commands: u32,
     pub flagged: u32,
+    pub fills: u32,
     pub octets: usize,
     pub width: u32,
     pub repairs: bool,
@@ -29,13 +31,13 @@ pub struct Numbers {
 // For buffers of a fixed size: the most multiblocks that a call takes in any mode, and the most lane octets.
 pub const MOST: usize = 240;
 
-pub const LONGEST_LANE: usize = 264 * MOST;
+pub const LONGEST_LANE: usize = 320 * 200;
 
 // Whether a mode has this number.
 pub fn known(mode: u8) -> bool
     ensures { λ r. ⌜ r ≡ known mode ⌝ }
 {
-    mode < 2
+    mode < 4
 }
 
 // The row of a mode. By the row of a number that is none no call takes a multiblock.
@@ -53,6 +55,16 @@ pub fn row_of(mode: u8) -> Row
             gap: 0,
             most: 240,
         },
+        2 => Row {
+            sync: Sync::Crc12,
+            gap: 2,
+            most: 200,
+        },
+        3 => Row {
+            sync: Sync::Fec,
+            gap: 2,
+            most: 200,
+        },
         _ => Row {
             sync: Sync::Crc12,
             gap: 0,
@@ -61,17 +73,26 @@ pub fn row_of(mode: u8) -> Row
     }
 }
 
+// Fill registers are below this: in gaps all ones are none, since they stand still; without gaps 0 is the only one.
+fn fills_of(gap: u8) -> u32
+    ensures { λ r. ⌜ r ≡ fillBound gap ⌝ }
+{
+    if gap == 0 { 1 } else { 0x1_ffff }
+}
+
 // The numbers that follow from a row.
 pub fn numbers_of(row: Row) -> Numbers
     ensures { λ r. ⌜ r ≡ numbersOf row ⌝ }
 {
     let sync = row.sync;
     let width = 66 + 7 * (row.gap as u32);
+    let fills = fills_of(row.gap);
     match sync {
         Sync::Crc12 => Numbers {
             parities: 0x1000,
             commands: 0x80,
             flagged: 0x100,
+            fills,
             octets: 4 * width as usize,
             width,
             repairs: false,
@@ -80,6 +101,7 @@ pub fn numbers_of(row: Row) -> Numbers
             parities: 0x400_0000,
             commands: 1,
             flagged: 1,
+            fills,
             octets: 4 * width as usize,
             width,
             repairs: true,

@@ -1,5 +1,5 @@
 -- The step table of header lock: clause 7.6.1; document 01, "Lock tables", whose lines stand above the rows. A block is `width` bits wide: 66
--- where the document says so. Assumes nothing.
+-- where the document says so, 80 where blocks have gaps (request 2). Assumes nothing.
 use mathlib.Core.Bool.{Bool, true, false, not}
 use Prim.Native.Nat.{ℕ, _+_, _%_}
 use lib.Dec.{eqb}

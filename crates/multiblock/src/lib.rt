@@ -1,98 +1,35 @@
-// Multiblocks of blocks without gaps written to a lane and read from it: clauses 7.1.2, 7.1.3 and 7.2.2. A multiblock is 33 words of the lane, and
-// block i begins 2 * i bits into word i: shifts and masks lay and gather its header and its 64 data bits across octet edges.
+// Multiblocks written to a lane and read from it, by the gap between the data octets of their blocks: clauses 7.1.2, 7.1.3, 7.2.2 and 7.2.5;
+// request 2.
 ghost use mathlib.Core.Path.{_≡_};
-ghost use Prim.Native.Nat.{_+_, _-_, _*_, _/_, _%_, _^_, _<_};
-ghost use Rattle.bits.specs.Order.{bitAt, digit, number, octetsOf, wordBit, laidAt};
-ghost use Rattle.frame.specs.Headers.{headerOf};
-ghost use Rattle.frame.specs.Lane.{multiblock, dataOctets, firstBit, secondBit};
+ghost use lib.Dec.{leb};
+ghost use lib.ListN.{length};
+ghost use Rattle.bits.specs.Choice.{pick};
+ghost use Rattle.bits.specs.Order.{number, octetsOf, wordBit, laidAt};
+ghost use Rattle.frame.specs.Lane.{laneOctets, multiblock, fillAfter, dataOctets, firstBit, secondBit, laneRead};
+ghost use Rattle.multiblock.specs.Shape.{shape};
+use frame::blocks::Multiblock;
 
-// The header that carries a bit of the sync word.
-fn header_of(sync: u32, block: usize) -> u64
-    requires { ⌜ block < 32 ⌝ }
-    ensures { λ r. ⌜ r ≡ headerOf (digit 32 sync block) ⌝ }
+// A multiblock that carries a sync word and 32 blocks of data, over the start of `lane`, and the fill register after it; nothing where it does not
+// fit, and the register as it was.
+pub fn write(gap: u8, register: u32, sync: u32, blocks: &[u64; 32], lane: &mut [u8]) -> u32
+    ensures { λ r. ⌜ r ≡ pick (leb (laneOctets (shape gap)) (length (now (lane .entry)))) (fillAfter (shape gap) register) register ⌝ }
+    ensures { λ _. ⌜ now (lane .exit) ≡ laidAt (multiblock (shape gap) register sync (octetsOf (wordBit (now (blocks .entry))) 256)) 0 (now (lane .entry)) ⌝ }
 {
-    if (sync >> (31 - block)) & 1 == 1 {
-        1
-    } else {
-        2
+    if gap == 0 {
+        blocks66::write(sync, blocks, lane);
+        return register;
     }
+    blocks80::write(register, sync, blocks, lane)
 }
 
-// The word that a block begins in: the last bits of the data before, the block's header, and the first of its own data.
-fn lane_word(sync: u32, before: u64, own: u64, block: usize) -> u64
-    requires { ⌜ block < 32 ⌝ }
-    ensures { λ r. ⌜ r ≡ (before % 2 ^ (2 * block) * 4 + headerOf (digit 32 sync block)) * 2 ^ (62 - 2 * block) + own / 2 ^ (2 + 2 * block) ⌝ }
+// The multiblock at the start of `lane`; nothing where it is too short.
+pub fn read(gap: u8, lane: &[u8]) -> Multiblock
+    ensures { λ r. ⌜ r .octets ≡ dataOctets (shape gap) (laneRead (shape gap) (now (lane .entry))) 0 ⌝ }
+    ensures { λ r. ⌜ r .first ≡ number (firstBit (shape gap) (laneRead (shape gap) (now (lane .entry))) 0) 0 32 ⌝ }
+    ensures { λ r. ⌜ r .second ≡ number (secondBit (shape gap) (laneRead (shape gap) (now (lane .entry))) 0) 0 32 ⌝ }
 {
-    let header = header_of(sync, block);
-    let at = 2 * block;
-    ((before << 1) << (63 - at)) | (header << (62 - at)) | ((own >> 2) >> at)
-}
-
-// Octets of a multiblock on the lane: 33 words of 64 bits.
-pub const OCTETS: usize = 8 * 33;
-
-// A multiblock that carries a sync word and 32 blocks of data, over the start of `lane`; nothing where it does not fit.
-pub fn write(sync: u32, blocks: &[u64; 32], lane: &mut [u8])
-    ensures { λ _. ⌜ now (lane .exit) ≡ laidAt (multiblock 0 sync (octetsOf (wordBit (now (blocks .entry))) 256)) 0 (now (lane .entry)) ⌝ }
-{
-    if lane.len() < OCTETS {
-        return;
+    if gap == 0 {
+        return blocks66::read(lane);
     }
-    // Of a slice's elements the proof knows that they are words.
-    let words = &blocks[..];
-    let mut before: u64 = 0;
-    for block in 0..32usize {
-        let own = words[block];
-        bits::put_word(lane, 8 * block, lane_word(sync, before, own, block));
-        before = own;
-    }
-    bits::put_word(lane, 256, before);
-}
-
-// A block's header, of the word that it begins in.
-fn header_in(word: u64, block: usize) -> u32
-    requires { ⌜ block < 32 ⌝ }
-    ensures { λ r. ⌜ r ≡ number (digit 64 word) (2 * block) 2 ⌝ }
-{
-    ((word >> (62 - 2 * block)) & 3) as u32
-}
-
-// Its 64 data bits, of that word and the next.
-fn data_in(word: u64, next: u64, block: usize) -> u64
-    requires { ⌜ block < 32 ⌝ }
-    ensures { λ r. ⌜ r ≡ number (digit 128 (word * 2 ^ 64 + next)) (2 * block + 2) 64 ⌝ }
-{
-    ((word << 2) << (2 * block)) | (next >> (62 - 2 * block))
-}
-
-// A multiblock as it was read: its data octets, and the first and the second bits of its 32 headers, with block 0's the highest.
-pub struct Multiblock {
-    pub octets: [u8; 256],
-    pub first: u32,
-    pub second: u32,
-}
-
-// The multiblock at the start of `lane`; past the end of the lane bits are 0.
-pub fn read(lane: &[u8]) -> Multiblock
-    ensures { λ r. ⌜ r .octets ≡ dataOctets 0 (bitAt (now (lane .entry))) 0 ⌝ }
-    ensures { λ r. ⌜ r .first ≡ number (firstBit 0 (bitAt (now (lane .entry))) 0) 0 32 ⌝ }
-    ensures { λ r. ⌜ r .second ≡ number (secondBit 0 (bitAt (now (lane .entry))) 0) 0 32 ⌝ }
-{
-    let mut octets = [0u8; 256];
-    let mut first: u32 = 0;
-    let mut second: u32 = 0;
-    let mut word = bits::word_at(lane, 0);
-    for block in 0..32usize {
-        let next = bits::word_at(lane, 8 * (block + 1));
-        let header = header_in(word, block);
-        first = (first << 1) | (header >> 1);
-        second = (second << 1) | (header & 1);
-        bits::put_word(&mut octets[..], 8 * block, data_in(word, next, block));
-        word = next;
-    }
-    Multiblock {
-        octets,
-        first,
-        second,
-    }
+    blocks80::read(lane)
 }

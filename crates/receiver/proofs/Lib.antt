@@ -1,6 +1,7 @@
 -- Laws of what the receiver releases.
 pub mod Refusals
 pub mod Cut
+pub mod Ignored
 pub mod Bare
 pub mod Counts
 pub mod Verdicts

@@ -6,6 +6,7 @@ ghost use lib.ListN.{length};
 ghost use Rattle.bits.specs.Order.{bitAt};
 ghost use Rattle.frame.specs.Modes.{mostOfAll};
 ghost use Rattle.frame.specs.Lane.{laneOctets};
+ghost use Rattle.multiblock.specs.Shape.{shape};
 ghost use Rattle.receiver.specs.Release.{releaseAt, step, run};
 ghost use Rattle.receiver.specs.Entry.{done, laidOut};
 ghost use Rattle.receiver.specs.inner.Turn.{heardAt, begunBy, Turned, Room};
@@ -24,12 +25,11 @@ pub(crate) struct Heard {
     invalid: u8,
 }
 
-// The part is of a length that the compiler knows, so that the reader's loop tests none.
 fn hear(row: Row, lane: &[u8]) -> Heard
-    requires { ⌜ (row .gap ≡ 0) × (laneOctets (row .gap) ≤ length (now lane)) ⌝ }
+    requires { ⌜ (shape (row .gap) ≡ row .gap) × (laneOctets (row .gap) ≤ length (now lane)) ⌝ }
     ensures { λ r. ⌜ r ≡ heardAt row (bitAt (now (lane .entry))) 0 ⌝ }
 {
-    let read = multiblock::read(&lane[0..multiblock::OCTETS]);
+    let read = multiblock::read(row.gap, lane);
     let octets = read.octets;
     let kind = row.sync;
     let bits = headers::carried(read.first, read.second);
@@ -52,7 +52,7 @@ pub(crate) struct Begun {
 
 // Where none waits, the first multiblock does, if there is one. Nothing came before it.
 pub(crate) fn begin(row: Row, size: usize, state: Receiver, lane: &[u8]) -> Begun
-    requires { ⌜ (row .gap ≡ 0) × (size ≡ laneOctets (row .gap)) ⌝ }
+    requires { ⌜ (shape (row .gap) ≡ row .gap) × (size ≡ laneOctets (row .gap)) ⌝ }
     ensures { λ r. ⌜ r ≡ begunBy row state (now (lane .entry)) ⌝ }
     ensures { λ r. ⌜ (r .taken ≤ 1) × (size * r .taken ≤ length (now (lane .entry))) ⌝ }
 {
@@ -91,7 +91,7 @@ fn release(
     patterns: &mut [u16],
     invalid: &mut [u8],
 ) -> Receiver
-    requires { ⌜ (row .gap ≡ 0) × (laneOctets (row .gap) ≤ length (now lane)) × (state .waiting ≡ true) × (256 ≤ length (now octets)) ⌝ }
+    requires { ⌜ (shape (row .gap) ≡ row .gap) × (laneOctets (row .gap) ≤ length (now lane)) × (state .waiting ≡ true) × (256 ≤ length (now octets)) ⌝ }
     requires { ⌜ (k < mostOfAll) × (k < length (now statuses)) × (k < length (now commands)) × (k < length (now places)) × (k < length (now patterns)) × (k < length (now invalid)) ⌝ }
     ensures { λ r. ⌜ Turned (step row (bitAt (now (lane .entry))) 0 state .state) (releaseAt row (bitAt (now (lane .entry))) 0 state) k r
         (now (octets .entry)) (now (statuses .entry)) (now (commands .entry)) (now (places .entry)) (now (patterns .entry)) (now (invalid .entry))
@@ -139,7 +139,7 @@ pub(crate) fn run(
     patterns: &mut [u16],
     invalid: &mut [u8],
 ) -> Received
-    requires { ⌜ (row .gap ≡ 0) × (size ≡ laneOctets (row .gap)) ⌝ }
+    requires { ⌜ (shape (row .gap) ≡ row .gap) × (size ≡ laneOctets (row .gap)) ⌝ }
     requires { ⌜ (0 < n → start .waiting ≡ true) × (size * n ≤ length (now lane)) × (n ≤ mostOfAll) ⌝ }
     requires { ⌜ Room n (length (now octets)) (length (now statuses)) (length (now commands)) (length (now places)) (length (now patterns)) (length (now invalid)) ⌝ }
     ensures { λ r. ⌜ done r (now (octets .exit)) (now (statuses .exit)) (now (commands .exit)) (now (places .exit)) (now (patterns .exit)) (now (invalid .exit))

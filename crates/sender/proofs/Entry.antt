@@ -15,7 +15,9 @@ use Rattle.bits.proofs.Refusals.{testOf, not-given, Given, first, later, only-w
 use Rattle.frame.specs.declared.modes.Row.{Row}
 use Rattle.frame.specs.Modes.{row}
 use Rattle.frame.specs.Lane.{laneOctets}
-use Rattle.frame.proofs.Rows.{no-gap, extent-within}
+use Rattle.frame.proofs.Rows.{extent-within}
+use Rattle.multiblock.specs.Shape.{shape}
+use Rattle.multiblock.proofs.Shapes.{own-shape}
 use Rattle.sender.specs.declared.Sender.{Sender}
 use Rattle.sender.specs.Lane.{lane, after}
 use Rattle.sender.specs.Refusal.{refusals, refusalOf}
@@ -95,10 +97,10 @@ module _ (mode E : ℕ) (s : Sender) (user commands old : List ℕ) where
 
     module _ (z : r ≡ 0) (R : Row) (own : R ≡ row mode) where
       -- what the run needs, by the octets of a multiblock
-      pub ready : (size : ℕ) → size ≡ laneOctets (R .gap) → ((R .gap ≡ 0) × (size ≡ laneOctets (R .gap))) × ((256 * length commands ≤ length user) × (size * length commands ≤ length old) × (s .number < E))
+      pub ready : (size : ℕ) → size ≡ laneOctets (R .gap) → ((shape (R .gap) ≡ R .gap) × (size ≡ laneOctets (R .gap))) × ((256 * length commands ≤ length user) × (size * length commands ≤ length old) × (s .number < E))
       ready size es =
           let ok = sym e ∙ z in
-          ((ap (λ (x : Row). x .gap) own ∙ no-gap mode, es), (omega (arith, whole ok), subst (λ (x : ℕ). x * length commands ≤ length old) (sym (es ∙ ap (λ (x : Row). laneOctets (x .gap)) own)) (room ok), fits ok .number))
+          ((subst (λ (x : Row). shape (x .gap) ≡ x .gap) (sym own) (own-shape mode), es), (omega (arith, whole ok), subst (λ (x : ℕ). x * length commands ≤ length old) (sym (es ∙ ap (λ (x : Row). laneOctets (x .gap)) own)) (room ok), fits ok .number))
 
       pub is-sent : (next : Sender) (all : List ℕ) → next ≡ after R E s user commands → all ≡ laid (lane R E s user commands) old
           → done (record { refusal = 0; count = length commands; state = next }) all ≡ entry mode E s user commands old

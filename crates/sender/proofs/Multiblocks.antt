@@ -15,16 +15,19 @@ use Rattle.bits.specs.Order.{bitAt, digit}
 use Rattle.bits.proofs.Octets.{bit-drop, bit-take, bit-append}
 use Rattle.parity.specs.Codeword.{parityOf}
 use Rattle.parity.proofs.Codeword.{parity-lt}
+use Rattle.fill.specs.Register.{registerAfter, shifts}
+use Rattle.fill.specs.Table38.{fillBit}
+use Rattle.fill.proofs.Registers.{register-add, register-none}
 use Rattle.frame.specs.declared.modes.Row.{Row}
 use Rattle.frame.specs.Modes.{parity, code}
 use Rattle.frame.specs.Headers.{invalid, headerOf}
-use Rattle.frame.specs.Lane.{laneOctets, dataBit, valueAt, headerAt, syncBit, dataOctets, multiblockBit}
+use Rattle.frame.specs.Lane.{laneOctets, fillPlace, fillAfter, dataBit, valueAt, headerAt, syncBit, dataOctets, multiblockBit}
 use Rattle.frame.specs.SyncWord.{held, syncWord, readParity}
 use Rattle.scrambler.specs.Scrambling.{sent, historyAfter, scrambled}
 use Rattle.frame.proofs.Rows.{proper}
 use Rattle.frame.proofs.SyncWord.{all-stand, fieldAt, held-lt, held-digit, only-parity, reads-parity}
 use Rattle.frame.proofs.Reading.{header-valid}
-use Rattle.frame.proofs.Lane.{laneFrom, header-by-value, data-moved, value-moved, sync-moved, octets-moved, data-back, value-back, sync-back, octets-back, multiblock-bits}
+use Rattle.frame.proofs.Lane.{laneFrom, header-by-value, data-moved, value-moved, fill-moved, fill-moved-on, fill-back, sync-moved, octets-moved, data-back, value-back, sync-back, octets-back, multiblock-bits}
 use Rattle.scrambler.proofs.Scrambling.{length-scrambled, scrambled-bit, scrambled-lt, sent-ext, sent-add, history-ext, history-add, history-none}
 use Rattle.sender.specs.declared.Sender.{Sender}
 use Rattle.sender.specs.Lane.{last, sentOne, afterOne, lane, after}
@@ -96,6 +99,23 @@ module _ (R : Row) (E : ℕ) (s : Sender) (user commands : List ℕ) (given : 25
       ∙ next-number (s .number + i) E (omega arith)
       ∙ ap (λ (x : ℕ). x % E) {x = s .number + i + 1} {y = s .number + suc i} (omega arith)
 
+  -- ---- its fill register
+
+  left-fill : (x : Sender) (u : List ℕ) → afterOne R E x u .fill ≡ fillAfter (R .gap) (x .fill)
+  unfolding afterOne
+  left-fill x u = refl
+
+  module _ (gaps : R .gap ≡ 0 → ⊥) (fits : s .fill < 2 ^ 17) where
+    fill-before : (i : ℕ) → i ≤ length commands → before i .fill ≡ registerAfter (s .fill) (shifts * (32 * i))
+    fill-before zero h = unfold after in sym (register-none (s .fill) fits)
+    fill-before (suc i) h =
+        ap (λ (x : Sender). x .fill) (before-next i (omega arith))
+        ∙ left-fill (before i) (own i)
+        ∙ fill-moved (R .gap) (before i .fill) gaps
+        ∙ ap (λ (x : ℕ). registerAfter x (shifts * 32)) (fill-before i (omega arith))
+        ∙ sym (register-add (s .fill) (shifts * (32 * i)) (shifts * 32))
+        ∙ ap (registerAfter (s .fill)) {x = shifts * (32 * i) + shifts * 32} {y = shifts * (32 * suc i)} (omega arith)
+
   -- ---- the multiblock
 
   abbrev octets : ℕ → List ℕ
@@ -118,24 +138,24 @@ module _ (R : Row) (E : ℕ) (s : Sender) (user commands : List ℕ) (given : 25
       ∙ ap (λ (n : ℕ). lane R E (before i) (drop (256 * n) user) (getD commands i 0 ∷ drop (suc i) commands)) counted
       ∙ unfold lane in refl
 
-  begins : (i : ℕ) → i < length commands → (x : ℕ) → x < 8 * laneOctets (R .gap) → laneFrom (R .gap) (bitAt all) i x ≡ multiblockBit (R .gap) (word i) (octets i) x
+  begins : (i : ℕ) → i < length commands → (x : ℕ) → x < 8 * laneOctets (R .gap) → laneFrom (R .gap) (bitAt all) i x ≡ multiblockBit (R .gap) (before i .fill) (word i) (octets i) x
   begins i h x l =
       ap (bitAt all) {x = 8 * laneOctets (R .gap) * i + x} {y = 8 * (laneOctets (R .gap) * i) + x} (omega arith)
       ∙ sym (bit-drop (laneOctets (R .gap) * i) all x)
       ∙ ap (λ (m : List ℕ). bitAt m x) (lane-from i h)
       ∙ bit-append (sentOne R E (before i) (own i) (getD commands i 0)) (rest i) x (omega (arith, one-length R E (before i) (own i) (getD commands i 0)))
-      ∙ unfold sentOne in multiblock-bits (R .gap) (word i) (octets i) x l
+      ∙ unfold sentOne in multiblock-bits (R .gap) (before i .fill) (word i) (octets i) x l
 
   -- its sync bits
   pub sync-sent : (i t : ℕ) → i < length commands → t < 32 → syncBit (R .gap) (bitAt all) i t ≡ digit 32 (word i) t
-  sync-sent i t h l = sync-moved (R .gap) (bitAt all) i t ∙ sync-back (R .gap) (word i) (octets i) (laneFrom (R .gap) (bitAt all) i) (begins i h) t l
+  sync-sent i t h l = sync-moved (R .gap) (bitAt all) i t ∙ sync-back (R .gap) (before i .fill) (word i) (octets i) (laneFrom (R .gap) (bitAt all) i) (begins i h) t l
 
   -- the values of its headers
   pub value-sent : (i t : ℕ) → i < length commands → t < 32
       → valueAt (R .gap) (bitAt all) i t ≡ headerOf (held (before i .parity) (getD commands i 0) (bitOf (last E (before i))) (fieldAt (R .sync) t))
   value-sent i t h l =
       value-moved (R .gap) (bitAt all) i t
-      ∙ value-back (R .gap) (word i) (octets i) (laneFrom (R .gap) (bitAt all) i) (begins i h) t l
+      ∙ value-back (R .gap) (before i .fill) (word i) (octets i) (laneFrom (R .gap) (bitAt all) i) (begins i h) t l
       ∙ ap headerOf (held-digit (R .sync) (before i .parity) (getD commands i 0) (bitOf (last E (before i))) t l)
 
   pub valid-sent : (i t : ℕ) → i < length commands → t < 32 → invalid (headerAt (R .gap) (bitAt all) i t) ≡ false
@@ -143,11 +163,23 @@ module _ (R : Row) (E : ℕ) (s : Sender) (user commands : List ℕ) (given : 25
       ap invalid (header-by-value (R .gap) (bitAt all) i t _ (value-sent i t h l))
       ∙ header-valid (held (before i .parity) (getD commands i 0) (bitOf (last E (before i))) (fieldAt (R .sync) t)) (held-lt _ _ _ (fieldAt (R .sync) t))
 
+  -- its fill bits: block t of multiblock i takes the register after as many blocks as came before
+  module _ (gaps : R .gap ≡ 0 → ⊥) (fits : s .fill < 2 ^ 17) where
+    pub fill-sent : (i t j : ℕ) → i < length commands → t < 32 → j < 7 * R .gap
+        → bitAt all (fillPlace (R .gap) i t j) ≡ fillBit (registerAfter (s .fill) (shifts * (32 * i + t))) j
+    fill-sent i t j h l m =
+        fill-moved-on (R .gap) (bitAt all) i t j
+        ∙ fill-back (R .gap) (before i .fill) (word i) (octets i) (laneFrom (R .gap) (bitAt all) i) (begins i h) t j l m
+        ∙ ap (λ (x : ℕ). fillBit x j)
+        (ap (λ (x : ℕ). registerAfter x (shifts * t)) (fill-before gaps fits i (omega arith))
+        ∙ sym (register-add (s .fill) (shifts * (32 * i)) (shifts * t))
+        ∙ ap (registerAfter (s .fill)) {x = shifts * (32 * i) + shifts * t} {y = shifts * (32 * i + t)} (omega arith))
+
   module _ (fits : s .history < 2 ^ 58) where
     pub data-sent : (i q : ℕ) → i < length commands → q < 2048 → dataBit (R .gap) (bitAt all) i q ≡ sent (bitAt user) (s .history) (2048 * i + q)
     data-sent i q h l =
         data-moved (R .gap) (bitAt all) i q
-        ∙ data-back (R .gap) (word i) (octets i) (laneFrom (R .gap) (bitAt all) i) (begins i h) q l
+        ∙ data-back (R .gap) (before i .fill) (word i) (octets i) (laneFrom (R .gap) (bitAt all) i) (begins i h) q l
         ∙ scrambled-bit (own i) (before i .history) 256 q (omega arith)
         ∙ ap (λ (x : ℕ). sent (bitAt (own i)) x q) (history-before fits i (omega arith))
         ∙ sent-ext (bitAt (own i)) (λ k. bitAt user (2048 * i + k)) (historyAfter (bitAt user) (s .history) (2048 * i)) q (λ j m. own-bit i j (omega arith))
@@ -169,5 +201,5 @@ module _ (R : Row) (E : ℕ) (s : Sender) (user commands : List ℕ) (given : 25
       back : dataOctets (R .gap) (bitAt all) i ≡ octets i
       back =
           octets-moved (R .gap) (bitAt all) i
-          ∙ octets-back (R .gap) (word i) (octets i) (laneFrom (R .gap) (bitAt all) i) (begins i (omega arith)) (λ j l. scrambled-lt (own i) (before i .history) 256 j l) (omega (arith, length-scrambled (own i) (before i .history) 256))
+          ∙ octets-back (R .gap) (before i .fill) (word i) (octets i) (laneFrom (R .gap) (bitAt all) i) (begins i (omega arith)) (λ j l. scrambled-lt (own i) (before i .history) 256 j l) (omega (arith, length-scrambled (own i) (before i .history) 256))
           ∙ take-all 256 (octets i) (omega (arith, length-scrambled (own i) (before i .history) 256))

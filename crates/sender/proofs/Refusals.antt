@@ -24,7 +24,7 @@ module _ (mode E : ℕ) (s : Sender) (user commands lane : List ℕ) (most : ℕ
       → refusalBy (
       1 when not (known mode)
       ∷ 2 when not (extentFits E)
-      ∷ 3 when not (stateFits (numbers .parities) E s)
+      ∷ 3 when not (stateFits (numbers .parities) (numbers .fills) E s)
       ∷ 4 when not (eqb (length user % 256) 0)
       ∷ 5 when ltb most (length user / 256)
       ∷ 6 when not (eqb (length commands) (length user / 256) && commandsFit (numbers .commands) commands)

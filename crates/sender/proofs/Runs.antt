@@ -86,7 +86,7 @@ module _ (R : Row) (E : ℕ) where
 
   pub one-length : (s : Sender) (user : List ℕ) (c : ℕ) → length (sentOne R E s user c) ≡ laneOctets (R .gap)
   unfolding sentOne
-  one-length s user c = length-multiblock (R .gap) (syncWord (R .sync) (s .parity) c (bitOf (last E s))) (scrambled user (s .history) 256)
+  one-length s user c = length-multiblock (R .gap) (s .fill) (syncWord (R .sync) (s .parity) c (bitOf (last E s))) (scrambled user (s .history) 256)
 
   pub lane-length : (s : Sender) (user commands : List ℕ) → length (lane R E s user commands) ≡ laneOctets (R .gap) * length commands
   unfolding lane

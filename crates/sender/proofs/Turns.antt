@@ -5,6 +5,8 @@ use Prim.Native.Nat.{ℕ, _+_, _-_, _*_, _≤_, _<_}
 use native.Mathlib.Nat.{mul-add, mul-one, mul-le-mul-left}
 use native.Mathlib.Numerals.{add-one}
 use native.Mathlib.Omega.{arith}
+use borrow.Author.Tests.{le-leb}
+use lib.Dec.{leb}
 use lib.ListN.{length, getD, take, drop, length-drop}
 use lib.Seq.{take-suc, take-length, take-all, length-take-le}
 use borrow.Rule.Slice.PartMut.{putMid, midOf, same-len-mid}
@@ -16,26 +18,29 @@ use Rattle.scrambler.proofs.Scrambling.{scrambled-words, scrambled-blocks}
 use Rattle.parity.specs.Codeword.{parityOf}
 use Rattle.frame.specs.declared.modes.Row.{Row}
 use Rattle.frame.specs.Modes.{code}
-use Rattle.frame.specs.Lane.{laneOctets, multiblock}
+use Rattle.frame.specs.Lane.{laneOctets, multiblock, fillAfter}
 use Rattle.frame.specs.SyncWord.{syncWord}
+use Rattle.multiblock.specs.Shape.{shape}
 use Rattle.sender.specs.declared.Sender.{Sender}
 use Rattle.sender.specs.Lane.{last, sentOne, afterOne, lane, after}
 use Rattle.sender.proofs.Runs.{after-one, lane-one, one-length, lane-length}
-use Rattle.sender.proofs.States.{one-fits}
+use Rattle.sender.proofs.States.{one-number}
 
 -- ---- one multiblock, as the code puts it together
 
-module _ (R : Row) (flat : R .gap ≡ 0) (E : ℕ) (s : Sender) (user blocks old all : List ℕ) (command history sync parity number : ℕ) (room : laneOctets (R .gap) ≤ length old) where
+module _ (R : Row) (own-gap : shape (R .gap) ≡ R .gap) (E : ℕ) (s : Sender) (user blocks old all : List ℕ) (command history sync parity number fill : ℕ) (room : laneOctets (R .gap) ≤ length old) where
   pub sent-one : blocks ≡ wordsOf (sent (bitAt user) (s .history)) 32 → history ≡ historyAfter (bitAt user) (s .history) 2048
-      → sync ≡ syncWord (R .sync) (s .parity) command (bitOf (last E s)) → all ≡ laidAt (multiblock 0 sync (octetsOf (wordBit blocks) 256)) 0 old
+      → sync ≡ syncWord (R .sync) (s .parity) command (bitOf (last E s)) → all ≡ laidAt (multiblock (shape (R .gap)) (s .fill) sync (octetsOf (wordBit blocks) 256)) 0 old
       → parity ≡ parityOf (code (R .sync)) (octetsIn blocks) → number ≡ pick (last E s) 0 (s .number + 1)
-      → (_≡_ {A = Sender} (record { history = history; parity = parity; number = number }) (afterOne R E s user)) × (all ≡ laid (sentOne R E s user command) old)
+      → fill ≡ pick (leb (laneOctets (shape (R .gap))) (length old)) (fillAfter (shape (R .gap)) (s .fill)) (s .fill)
+      → (_≡_ {A = Sender} (record { history = history; parity = parity; number = number; fill = fill }) (afterOne R E s user)) × (all ≡ laid (sentOne R E s user command) old)
   unfolding afterOne sentOne
-  sent-one eb eh es ea ep en =
+  sent-one eb eh es ea ep en ef =
       let own : octetsIn blocks ≡ scrambled user (s .history) 256 = ap octetsIn eb ∙ scrambled-words user (s .history) 32 in
       let data-octets : octetsOf (wordBit blocks) 256 ≡ scrambled user (s .history) 256 = ap (λ (l : List ℕ). octetsOf (wordBit l) 256) eb ∙ scrambled-blocks user (s .history) 32 in
-      let one : multiblock 0 sync (octetsOf (wordBit blocks) 256) ≡ sentOne R E s user command = rw (data-octets, es, flat) in (
-        rw (eh, ep, own, en),
+      let one : multiblock (shape (R .gap)) (s .fill) sync (octetsOf (wordBit blocks) 256) ≡ sentOne R E s user command = rw (data-octets, es, own-gap) in
+      let moved : fill ≡ fillAfter (R .gap) (s .fill) = ef ∙ rw (own-gap, le-leb (laneOctets (R .gap)) (length old) room) in (
+        rw (eh, ep, own, en, moved),
         ea ∙ ap (λ (l : List ℕ). laidAt l 0 old) one ∙ laid-start (sentOne R E s user command) old (omega (arith, room, one-length R E s user command)),
       )
 
@@ -86,7 +91,7 @@ module _ (R : Row) (size : ℕ) (es : size ≡ laneOctets (R .gap)) (E : ℕ) (s
             ∙ ap (λ (x : List ℕ). laid x old)
             (ap (λ (x : List ℕ). lane R E start user done ++ sentOne R E was x c) own ∙ sym (ap (lane R E start user) more ∙ lane-one R E start user done c));
         long = same-len-mid (size * k) (length all - size * k) all part lp ∙ h .long;
-        number = subst (λ (x : Sender). x .number < E) (sym er) (one-fits R E s block (h .number) .number);
+        number = subst (λ (x : Sender). x .number < E) (sym er) (one-number R E s block (h .number));
       }
 
 -- after all of them

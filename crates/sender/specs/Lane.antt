@@ -1,4 +1,4 @@
--- What a sender sends: document 01, "From octets to lane bits"; clauses 7.1.4, 7.3.3, 7.4.1 and 7.5.1.
+-- What a sender sends: document 01, "From octets to lane bits"; request 2; clauses 7.1.4, 7.2.5, 7.3.3, 7.4.1 and 7.5.1.
 -- A run goes over commands, one for each multiblock, with 256 user octets each. Assumes nothing.
 use mathlib.Core.Bool.{Bool}
 use mathlib.Core.List.{List, [], _∷_, _++_}
@@ -11,13 +11,13 @@ use Rattle.scrambler.specs.Scrambling.{scrambled, historyAfter}
 use Rattle.parity.specs.Codeword.{parityOf}
 use Rattle.frame.specs.declared.modes.Row.{Row}
 use Rattle.frame.specs.Modes.{code}
-use Rattle.frame.specs.Lane.{multiblock}
+use Rattle.frame.specs.Lane.{multiblock, fillAfter}
 use Rattle.frame.specs.SyncWord.{syncWord}
 use Rattle.sender.specs.declared.Sender.{Sender}
 
--- history, parity and multiblock number 0
+-- history, parity, multiblock number and fill register 0
 abbrev pub fresh : Sender
-fresh = record { history = 0; parity = 0; number = 0 }
+fresh = record { history = 0; parity = 0; number = 0; fill = 0 }
 
 -- whether a multiblock is the last of its extended multiblock
 abbrev pub last : ℕ → Sender → Bool
@@ -25,7 +25,8 @@ last E s = eqb (s .number + 1) E
 
 -- the multiblock sent for 256 user octets: its sync word carries the parity of the one before
 unfoldable pub sentOne : Row → ℕ → Sender → List ℕ → ℕ → List ℕ
-sentOne R E s user command = multiblock (R .gap) (syncWord (R .sync) (s .parity) command (bitOf (last E s))) (scrambled user (s .history) 256)
+sentOne R E s user command =
+    multiblock (R .gap) (s .fill) (syncWord (R .sync) (s .parity) command (bitOf (last E s))) (scrambled user (s .history) 256)
 
 -- the state after it
 unfoldable pub afterOne : Row → ℕ → Sender → List ℕ → Sender
@@ -33,6 +34,7 @@ afterOne R E s user = record {
   history = historyAfter (bitAt user) (s .history) 2048;
   parity = parityOf (code (R .sync)) (scrambled user (s .history) 256);
   number = pick (last E s) 0 (s .number + 1);
+  fill = fillAfter (R .gap) (s .fill);
 }
 
 -- a run: the lane, and the state after it

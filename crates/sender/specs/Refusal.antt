@@ -1,4 +1,4 @@
--- What a sender refuses, and by which number: document 01, "Numbers of refusal". Assumes nothing.
+-- What a sender refuses, and by which number: document 01, "Numbers of refusal"; request 2. Assumes nothing.
 use mathlib.Core.Bool.{Bool, true, not, _&&_}
 use mathlib.Core.List.{List, [], _∷_}
 use Prim.Native.Nat.{ℕ, _*_, _/_, _%_, _^_}
@@ -8,9 +8,9 @@ use Rattle.bits.specs.Refusals.{Line, _when_, refusalBy}
 use Rattle.frame.specs.Modes.{known, row, numbersOf, extentFits}
 use Rattle.sender.specs.declared.Sender.{Sender}
 
--- each field of a state is in its range, where parities are below a bound
-unfoldable pub stateFits : ℕ → ℕ → Sender → Bool
-stateFits parities E s = ltb (s .history) (2 ^ 58) && (ltb (s .parity) parities && ltb (s .number) E)
+-- each field of a state is in its range, where parities and fill registers are below bounds
+unfoldable pub stateFits : ℕ → ℕ → ℕ → Sender → Bool
+stateFits parities fills E s = ltb (s .history) (2 ^ 58) && (ltb (s .parity) parities && (ltb (s .number) E && ltb (s .fill) fills))
 
 -- each command is below a bound
 unfoldable pub commandsFit : ℕ → List ℕ → Bool
@@ -24,7 +24,7 @@ refusals mode E s user commands lane =
     let n = length user / 256 in
     1 when not (known mode)
     ∷ 2 when not (extentFits E)
-    ∷ 3 when not (stateFits (numbers .parities) E s)
+    ∷ 3 when not (stateFits (numbers .parities) (numbers .fills) E s)
     ∷ 4 when not (eqb (length user % 256) 0)
     ∷ 5 when ltb (row mode .most) n
     ∷ 6 when not (eqb (length commands) n && commandsFit (numbers .commands) commands)

@@ -1,4 +1,4 @@
-// The sender: user octets and commands to lane octets. Document 01, "From octets to lane bits" and "Numbers of refusal".
+// The sender: user octets and commands to lane octets. Document 01, "From octets to lane bits" and "Numbers of refusal"; request 2.
 ghost use mathlib.Core.Path.{_≡_};
 ghost use Rattle.sender.specs.Lane.{fresh};
 ghost use Rattle.sender.specs.Entry.{done, entry};
@@ -8,13 +8,14 @@ mod run;
 
 use frame::modes;
 
-// What a sender carries from one call to the next: the last 58 bits sent, the parity of the last multiblock, and the number of the next
-// multiblock in its extended multiblock.
+// What a sender carries from one call to the next: the last 58 bits sent, the parity of the last multiblock, the number of the next
+// multiblock in its extended multiblock, and the register that the next block's fill bits are taken from.
 #[repr(C)]
 pub struct Sender {
     pub history: u64,
     pub parity: u32,
     pub number: u32,
+    pub fill: u32,
 }
 
 // A refusal, or 0 with the multiblocks sent; and the state for the next call.
@@ -33,6 +34,7 @@ impl Sender {
             history: 0,
             parity: 0,
             number: 0,
+            fill: 0,
         }
     }
 }

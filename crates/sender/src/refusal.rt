@@ -9,9 +9,9 @@ use crate::Sender;
 use frame::modes;
 use frame::modes::Numbers;
 
-// Whether each field of a state is in its range, where parities are below a bound.
-fn state_fits(parities: u32, e: u32, state: Sender) -> bool
-    ensures { λ r. ⌜ r ≡ stateFits parities e state ⌝ }
+// Whether each field of a state is in its range, where parities and fill registers are below bounds.
+fn state_fits(parities: u32, fills: u32, e: u32, state: Sender) -> bool
+    ensures { λ r. ⌜ r ≡ stateFits parities fills e state ⌝ }
 {
     if state.history >= 0x400_0000_0000_0000 {
         return false;
@@ -20,6 +20,9 @@ fn state_fits(parities: u32, e: u32, state: Sender) -> bool
         return false;
     }
     if state.number >= e {
+        return false;
+    }
+    if state.fill >= fills {
         return false;
     }
     true
@@ -69,7 +72,7 @@ pub(crate) fn refusal_of(
     if !modes::extent_fits(e) {
         return 2;
     }
-    if !state_fits(numbers.parities, e, state) {
+    if !state_fits(numbers.parities, numbers.fills, e, state) {
         return 3;
     }
     if user.len() % 256 != 0 {

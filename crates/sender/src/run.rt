@@ -1,4 +1,4 @@
-// A run over multiblocks: clauses 7.1.4, 7.3.3, 7.4.1 and 7.5.1.
+// A run over multiblocks: clauses 7.1.4, 7.2.5, 7.3.3, 7.4.1 and 7.5.1; request 2.
 ghost use mathlib.Core.Path.{_≡_};
 ghost use Prim.Native.Nat.{_*_, _≤_, _<_};
 ghost use lib.ListN.{length};
@@ -7,6 +7,7 @@ ghost use Rattle.bits.specs.Order.{octetsIn, laid};
 ghost use Rattle.parity.specs.Codeword.{parityOf};
 ghost use Rattle.frame.specs.Modes.{code};
 ghost use Rattle.frame.specs.Lane.{laneOctets};
+ghost use Rattle.multiblock.specs.Shape.{shape};
 ghost use Rattle.sender.specs.Lane.{sentOne, afterOne, lane as sentAll, after};
 use crate::Sender;
 use frame::modes::Row;
@@ -32,7 +33,7 @@ fn number_after(last: bool, next: u32) -> u32
 
 // The multiblock for 256 user octets, over the start of `lane`. Its sync word carries the parity of the one before.
 fn send_one(row: Row, e: u32, state: Sender, user: &[u8], command: u32, lane: &mut [u8]) -> Sender
-    requires { ⌜ (row .gap ≡ 0) × (laneOctets (row .gap) ≤ length (now lane)) × (state .number < e) ⌝ }
+    requires { ⌜ (shape (row .gap) ≡ row .gap) × (laneOctets (row .gap) ≤ length (now lane)) × (state .number < e) ⌝ }
     ensures { λ r. ⌜ r ≡ afterOne row e state (now (user .entry)) ⌝ }
     ensures { λ _. ⌜ now (lane .exit) ≡ laid (sentOne row e state (now (user .entry)) command) (now (lane .entry)) ⌝ }
 {
@@ -43,11 +44,12 @@ fn send_one(row: Row, e: u32, state: Sender, user: &[u8], command: u32, lane: &m
     let next = state.number + 1;
     let last = next == e;
     let word = sync::word(kind, state.parity, command, last);
-    multiblock::write(word, &blocks, lane);
+    let fill = multiblock::write(row.gap, state.fill, word, &blocks, lane);
     Sender {
         history: scrambled.history,
         parity,
         number: number_after(last, next),
+        fill,
     }
 }
 
@@ -61,7 +63,7 @@ pub(crate) fn send_all(
     commands: &[u32],
     lane: &mut [u8],
 ) -> Sender
-    requires { ⌜ (row .gap ≡ 0) × (size ≡ laneOctets (row .gap)) ⌝ }
+    requires { ⌜ (shape (row .gap) ≡ row .gap) × (size ≡ laneOctets (row .gap)) ⌝ }
     requires { ⌜ (256 * length (now commands) ≤ length (now user)) × (size * length (now commands) ≤ length (now lane)) × (start .number < e) ⌝ }
     ensures { λ r. ⌜ r ≡ after row e start (now (user .entry)) (now (commands .entry)) ⌝ }
     ensures { λ _. ⌜ now (lane .exit) ≡ laid (sentAll row e start (now (user .entry)) (now (commands .entry))) (now (lane .entry)) ⌝ }

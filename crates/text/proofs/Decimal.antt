@@ -7,13 +7,11 @@ use Prim.Native.Nat.{ℕ, zero, suc, _+_, _*_, _/_, _%_, _^_, _≤_, _<_}
 use native.Mathlib.Nat.{pow-suc}
 use native.Mathlib.Omega.{arith}
 use borrow.Author.Tests.{lt-ltb, le-ltb}
-use lib.Dec.{ltb, lit≤}
+use lib.Dec.{ltb}
 use lib.ListN.{length, length-append}
 use Rattle.bits.specs.Choice.{pick}
-use Rattle.frame.specs.declared.modes.Sync.{Sync}
-use Rattle.frame.specs.declared.modes.Sync.the-variants.{Crc12, Fec}
 use Rattle.frame.specs.declared.modes.Row.{Row}
-use Rattle.text.specs.Text.{digitsOf, decimal, syncName, nameOf, headLine, releaseLine}
+use Rattle.text.specs.Text.{digitsOf, decimal, nameOf, headLine, releaseLine}
 use Rattle.text.specs.inner.Wrote.{field}
 
 -- ---- digits
@@ -105,17 +103,3 @@ head-length R E received released =
       field-length received 32,
       field-length released 10,
     )
-
--- ---- names
-
-pub name-is : (R : Row) (S : Sync) → R .sync ≡ S → nameOf R ≡ syncName S
-unfolding nameOf
-name-is R S e = ap syncName e
-
-sync-short : (S : Sync) → length (syncName S) ≤ 6
-sync-short Crc12 = lit≤ tt
-sync-short Fec = lit≤ tt
-
-pub name-short : (R : Row) → length (nameOf R) ≤ 6
-unfolding nameOf
-name-short R = sync-short (R .sync)

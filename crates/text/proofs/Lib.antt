@@ -1,5 +1,6 @@
 -- Laws of text that no one function owns.
 pub mod Decimal
+pub mod Names
 pub mod Wrote
 pub mod Releases
 pub mod Refusals

@@ -1,13 +1,13 @@
--- A listing as octets: decimal numbers without leading zeros, and lines. Document 01, "Capture and listing". Assumes nothing.
-use mathlib.Core.Bool.{Bool, true, false}
+-- A listing as octets: decimal numbers without leading zeros, and lines. Document 01, "Capture and listing"; request 2. Assumes nothing.
 use mathlib.Core.List.{List, [], _∷_, _++_}
 use Prim.Native.Nat.{ℕ, zero, suc, _+_, _/_, _%_}
-use lib.Dec.{ltb}
+use lib.Dec.{ltb, eqb}
 use lib.ListN.{length, getD}
 use Rattle.bits.specs.Choice.{pick}
 use Rattle.frame.specs.declared.modes.Sync.{Sync}
 use Rattle.frame.specs.declared.modes.Sync.the-variants.{Crc12, Fec}
 use Rattle.frame.specs.declared.modes.Row.{Row}
+use Rattle.frame.specs.Lane.{blockWidth}
 
 -- the decimal digits of n, of which there are at most so many
 unfoldable pub digitsOf : ℕ → ℕ → List ℕ
@@ -25,13 +25,18 @@ spaced n = decimal n ++ (32 ∷ [])
 abbrev pub ended : ℕ → List ℕ
 ended n = decimal n ++ (10 ∷ [])
 
--- "crc12 " or "fec "
+-- "crc12" or "fec"
 abbrev pub syncName : Sync → List ℕ
-syncName Crc12 = 99 ∷ 114 ∷ 99 ∷ 49 ∷ 50 ∷ 32 ∷ []
-syncName Fec = 102 ∷ 101 ∷ 99 ∷ 32 ∷ []
+syncName Crc12 = 99 ∷ 114 ∷ 99 ∷ 49 ∷ 50 ∷ []
+syncName Fec = 102 ∷ 101 ∷ 99 ∷ []
 
+-- where blocks have gaps, "-" and the bits of a block (request 2)
+unfoldable pub shapeName : ℕ → List ℕ
+shapeName gap = pick (eqb gap 0) [] (45 ∷ decimal (blockWidth gap))
+
+-- the name of a mode, and a space
 unfoldable pub nameOf : Row → List ℕ
-nameOf R = syncName (R .sync)
+nameOf R = syncName (R .sync) ++ (shapeName (R .gap) ++ (32 ∷ []))
 
 -- mode name, E, received, released
 unfoldable pub headLine : Row → ℕ → ℕ → ℕ → List ℕ

@@ -4,8 +4,9 @@ ghost use mathlib.Core.List.{[], _∷_};
 ghost use Prim.Native.Nat.{_+_, _≤_, _<_};
 ghost use lib.ListN.{length};
 ghost use Rattle.frame.specs.declared.modes.Sync.the-variants.{Crc12, Fec};
-ghost use Rattle.text.specs.Text.{decimal, syncName, nameOf, headLine, releaseLine};
+ghost use Rattle.text.specs.Text.{decimal, syncName, shapeName, nameOf, headLine, releaseLine};
 ghost use Rattle.text.specs.inner.Wrote.{Wrote, field};
+use frame::modes;
 use frame::modes::Row;
 use frame::modes::Sync;
 
@@ -55,18 +56,17 @@ fn put_field(text: &mut [u8], at: usize, n: u32, end: u8) -> usize
 }
 
 fn put_fec(text: &mut [u8]) -> usize
-    requires { ⌜ 4 ≤ length (now text) ⌝ }
+    requires { ⌜ 3 ≤ length (now text) ⌝ }
     ensures { λ r. ⌜ Wrote (syncName Fec) 0 (now (text .entry)) r (now (text .exit)) ⌝ }
 {
     text[0] = b'f';
     text[1] = b'e';
     text[2] = b'c';
-    text[3] = b' ';
-    4
+    3
 }
 
 fn put_crc12(text: &mut [u8]) -> usize
-    requires { ⌜ 6 ≤ length (now text) ⌝ }
+    requires { ⌜ 5 ≤ length (now text) ⌝ }
     ensures { λ r. ⌜ Wrote (syncName Crc12) 0 (now (text .entry)) r (now (text .exit)) ⌝ }
 {
     text[0] = b'c';
@@ -74,14 +74,13 @@ fn put_crc12(text: &mut [u8]) -> usize
     text[2] = b'c';
     text[3] = b'1';
     text[4] = b'2';
-    text[5] = b' ';
-    6
+    5
 }
 
-// The name of the mode, and a space.
-fn put_name(text: &mut [u8], row: Row) -> usize
-    requires { ⌜ length (nameOf row) ≤ length (now text) ⌝ }
-    ensures { λ r. ⌜ Wrote (nameOf row) 0 (now (text .entry)) r (now (text .exit)) ⌝ }
+// The name of the sync word.
+fn put_sync(text: &mut [u8], row: Row) -> usize
+    requires { ⌜ length (syncName (row .sync)) ≤ length (now text) ⌝ }
+    ensures { λ r. ⌜ Wrote (syncName (row .sync)) 0 (now (text .entry)) r (now (text .exit)) ⌝ }
 {
     let sync = row.sync;
     match sync {
@@ -90,14 +89,53 @@ fn put_name(text: &mut [u8], row: Row) -> usize
     }
 }
 
-fn name_width(row: Row) -> usize
-    ensures { λ r. ⌜ (r ≡ length (nameOf row)) × (r ≤ 6) ⌝ }
+fn sync_width(row: Row) -> usize
+    ensures { λ r. ⌜ (r ≡ length (syncName (row .sync))) × (r ≤ 5) ⌝ }
 {
     let sync = row.sync;
     match sync {
-        Sync::Crc12 => 6,
-        Sync::Fec => 4,
+        Sync::Crc12 => 5,
+        Sync::Fec => 3,
     }
+}
+
+// Where blocks have gaps, the bits of a block.
+fn put_shape(text: &mut [u8], at: usize, row: Row) -> usize
+    requires { ⌜ at + length (shapeName (row .gap)) ≤ length (now text) ⌝ }
+    ensures { λ r. ⌜ Wrote (shapeName (row .gap)) at (now (text .entry)) r (now (text .exit)) ⌝ }
+{
+    if row.gap == 0 {
+        return at;
+    }
+    let numbers = modes::numbers_of(row);
+    let next = put_octet(text, at, b'-');
+    put_decimal(text, next, numbers.width)
+}
+
+fn shape_width(row: Row) -> usize
+    ensures { λ r. ⌜ (r ≡ length (shapeName (row .gap))) × (r ≤ 21) ⌝ }
+{
+    if row.gap == 0 {
+        return 0;
+    }
+    let numbers = modes::numbers_of(row);
+    width(numbers.width) + 1
+}
+
+// The name of the mode, and a space.
+fn put_name(text: &mut [u8], row: Row) -> usize
+    requires { ⌜ length (nameOf row) ≤ length (now text) ⌝ }
+    ensures { λ r. ⌜ Wrote (nameOf row) 0 (now (text .entry)) r (now (text .exit)) ⌝ }
+{
+    let sync = put_sync(text, row);
+    let shape = put_shape(text, sync, row);
+    put_octet(text, shape, b' ')
+}
+
+fn name_width(row: Row) -> usize
+    ensures { λ r. ⌜ (r ≡ length (nameOf row)) × (r ≤ 27) ⌝ }
+{
+    sync_width(row) + shape_width(row) + 1
 }
 
 // Mode name, E, received, released.
@@ -112,7 +150,7 @@ pub(crate) fn put_head(text: &mut [u8], row: Row, e: u32, received: u32, release
 }
 
 pub(crate) fn head_width(row: Row, e: u32, received: u32, released: u32) -> usize
-    ensures { λ r. ⌜ (r ≡ length (headLine row e received released)) × (r ≤ 69) ⌝ }
+    ensures { λ r. ⌜ (r ≡ length (headLine row e received released)) × (r ≤ 90) ⌝ }
 {
     name_width(row) + width(e) + width(received) + width(released) + 3
 }

@@ -1,20 +1,25 @@
 -- `receiver::receive` meets its contract.
 -- Assumes nothing.
 use borrow.Author.Needs.{needs}
-use mathlib.Core.Path.{ap, _∙_}
-use Prim.Native.Nat.{_*_, _^_, _≤_, _<_}
+use mathlib.Core.Path.{_≡_, sym, ap, _∙_, subst}
+use Prim.Native.Nat.{ℕ, _*_, _^_, _≤_, _<_}
 use native.Mathlib.Omega.{arith}
 use lib.ListN.{length}
 use Rattle.frame.specs.declared.modes.Row.{Row}
 use Rattle.frame.specs.declared.modes.Numbers.{Numbers}
-use Rattle.frame.specs.Modes.{numbersOf}
-use Rattle.frame.proofs.Rows.{no-gap}
+use Rattle.frame.specs.Modes.{row, numbersOf}
 use Rattle.frame.proofs.Sizes.{octets-some}
+use Rattle.multiblock.specs.Shape.{shape}
+use Rattle.multiblock.proofs.Shapes.{own-shape}
 use Rattle.receiver.specs.inner.Turn.{begunBy}
 use Rattle.receiver.proofs.Answers.{is-refused, ready, is-all, taken-within}
 use denote.Ref.{now}
 use Rattle.receiver.proofs.receive.Statement.{statement}
 use Rattle.receiver.proofs.receive.Tie as tie
+
+-- multiblocks are read by the gap of a mode's row
+shaped : (mode : ℕ) (R : Row) → R ≡ row mode → shape (R .gap) ≡ R .gap
+shaped mode R e = subst (λ (x : Row). shape (x .gap) ≡ x .gap) (sym e) (own-shape mode)
 
 row-of-requires : tie.Need-row-of-requires
 row-of-requires c κs = search needs
@@ -36,7 +41,7 @@ returns c =
 
 begin-requires : tie.Need-begin-requires
 begin-requires c κs =
-    (ap (λ (x : Row). x .gap) (c .before .before .before .row-of .ensures) ∙ no-gap (c .before .before .before .before .before .before .before .before .before .before .before .args .mode), ap (λ (x : Numbers). x .octets) (c .before .before .numbers-of .ensures))
+    (shaped (c .before .before .before .before .before .before .before .before .before .before .before .args .mode) _ (c .before .before .before .row-of .ensures), ap (λ (x : Numbers). x .octets) (c .before .before .numbers-of .ensures))
 
 div-n : tie.Need-div-n
 div-n c = omega (arith, ap (λ (x : Numbers). x .octets) (c .before .before .before .before .numbers-of .ensures), octets-some (c .before .before .before .before .before .row-of .result .gap))
@@ -70,9 +75,8 @@ run-requires c κs =
     let own = c .before .before .before .before .before .before .before .before .before .before .before .before .before .before .row-of .ensures in
     let numbers = c .before .before .before .before .before .before .before .before .before .before .before .before .before .numbers-of .ensures in
     let size = ap (λ (x : Numbers). x .octets) (numbers ∙ ap numbersOf own) in
-    let narrow = ap (λ (x : Row). x .gap) own ∙ no-gap (a .mode) in
     let given = ready (a .mode) (a .state) (now (a .lane)) (now (a .octets)) (now (a .statuses)) (now (a .commands)) (now (a .places)) (now (a .patterns)) (now (a .invalid)) (f .result) (f .ensures) (c .before .before .before .before .before .before .before .before .before .before .before .if1 .left) (b .result) (b .ensures .0 ∙ ap (λ (x : Row). begunBy x (a .state) (now (a .lane))) own) _ size in
-    ((narrow, ap (λ (x : Numbers). x .octets) numbers), (given .0, given .1))
+    ((shaped (a .mode) _ own, ap (λ (x : Numbers). x .octets) numbers), (given .0, given .1))
 
 same-length : tie.Need-same-length
 same-length c = c .before .before .before .before .before .before .before .before .before .before .before .before .run .kept .1 .1 .1 .1 .1 .0

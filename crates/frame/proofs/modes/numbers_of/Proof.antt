@@ -1,28 +1,29 @@
 -- `frame::modes::numbers_of` meets its contract: by the kind of sync word.
 -- Assumes nothing.
-use mathlib.Core.Path.{_≡_, sym, ap}
-use Prim.Native.Nat.{_^_}
+use mathlib.Core.Path.{_≡_, sym, ap₂}
+use Prim.Native.Nat.{ℕ, _^_}
 use borrow.Author.Needs.{needs}
 use Rattle.frame.specs.declared.modes.Sync.{Sync}
 use Rattle.frame.specs.declared.modes.Row.{Row}
 use Rattle.frame.specs.declared.modes.Numbers.{Numbers}
-use Rattle.frame.specs.Lane.{blockWidth, laneOctets}
+use Rattle.frame.specs.Lane.{blockWidth, laneOctets, fillBound}
 use Rattle.frame.specs.Modes.{code, commandWidth, flaggedBound, repairs, numbersOf}
 use Rattle.frame.proofs.modes.numbers_of.Statement.{statement}
 use Rattle.frame.proofs.modes.numbers_of.Tie as tie
 
-abbrev numbersBy : Row → Sync → Numbers
-numbersBy R S = record {
+abbrev numbersBy : Row → Sync → ℕ → Numbers
+numbersBy R S fills = record {
   parities = 2 ^ code S .width;
   commands = 2 ^ commandWidth S;
   flagged = flaggedBound S;
+  fills = fills;
   octets = laneOctets (R .gap);
   width = blockWidth (R .gap);
   repairs = repairs S;
 }
 
-by-sync : (R : Row) (S : Sync) → R .sync ≡ S → numbersBy R S ≡ numbersOf R
-by-sync R S e = ap (numbersBy R) (sym e)
+by-sync : (R : Row) (S : Sync) (fills : ℕ) → R .sync ≡ S → fills ≡ fillBound (R .gap) → numbersBy R S fills ≡ numbersOf R
+by-sync R S fills e f = ap₂ (numbersBy R) (sym e) f
 
 cast-width : tie.Need-cast-width
 cast-width c = search needs
@@ -33,31 +34,38 @@ mul-width c = search needs
 add-width : tie.Need-add-width
 add-width c = search needs
 
+fills-of-requires : tie.Need-fills-of-requires
+fills-of-requires c κs = search needs
+
 enum-told : tie.Need-enum-told
 enum-told c = search needs
 
-cast-t7 : tie.Need-cast-t7
-cast-t7 c = search needs
+cast-t8 : tie.Need-cast-t8
+cast-t8 c = search needs
 
-mul-t8 : tie.Need-mul-t8
-mul-t8 c = search needs
+mul-t9 : tie.Need-mul-t9
+mul-t9 c = search needs
 
 enum-told-2 : tie.Need-enum-told-2
 enum-told-2 c = search needs
 
-cast-t9 : tie.Need-cast-t9
-cast-t9 c = search needs
+cast-t10 : tie.Need-cast-t10
+cast-t10 c = search needs
 
-mul-t10 : tie.Need-mul-t10
-mul-t10 c = search needs
+mul-t11 : tie.Need-mul-t11
+mul-t11 c = search needs
 
 returns : tie.Need-returns
 unfolding laneOctets blockWidth
-returns c = by-sync (c .before .before .before .args .row) _ (c .enum-told .given .1)
+returns c =
+    let fills = c .before .before .fills-of in
+    by-sync (c .before .before .before .before .args .row) _ (fills .result) (c .enum-told .given .1) (fills .ensures)
 
 returns-2 : tie.Need-returns-2
 unfolding laneOctets blockWidth
-returns-2 c = by-sync (c .before .before .before .args .row) _ (c .enum-told2 .given .1)
+returns-2 c =
+    let fills = c .before .before .fills-of in
+    by-sync (c .before .before .before .before .args .row) _ (fills .result) (c .enum-told2 .given .1) (fills .ensures)
 
 pub numbers-of-spec : {M : Type 1} → statement M
 numbers-of-spec =
@@ -66,11 +74,12 @@ numbers-of-spec =
     cast-width
     mul-width
     add-width
+    fills-of-requires
     enum-told
-    cast-t7
-    mul-t8
+    cast-t8
+    mul-t9
     enum-told-2
-    cast-t9
-    mul-t10
+    cast-t10
+    mul-t11
     returns
     returns-2)

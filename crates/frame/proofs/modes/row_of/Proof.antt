@@ -7,11 +7,13 @@ use Rattle.frame.proofs.modes.row_of.Statement.{statement}
 use Rattle.frame.proofs.modes.row_of.Tie as tie
 
 -- a number past the rows
-none : (mode : ℕ) → (mode ≡ 0 → ⊥) → (mode ≡ 1 → ⊥) → row mode ≡ noRow
+none : (mode : ℕ) → (mode ≡ 0 → ⊥) → (mode ≡ 1 → ⊥) → (mode ≡ 2 → ⊥) → (mode ≡ 3 → ⊥) → row mode ≡ noRow
 unfolding row
-none zero a b = absurd (a refl)
-none (suc zero) a b = absurd (b refl)
-none (suc (suc mode)) a b = refl
+none zero a b c d = absurd (a refl)
+none (suc zero) a b c d = absurd (b refl)
+none (suc (suc zero)) a b c d = absurd (c refl)
+none (suc (suc (suc zero))) a b c d = absurd (d refl)
+none (suc (suc (suc (suc mode)))) a b c d = refl
 
 returns : tie.Need-returns
 unfolding row
@@ -22,7 +24,17 @@ unfolding row
 returns-2 c = sym (ap row (c .match .keys2))
 
 returns-3 : tie.Need-returns-3
-returns-3 c = sym (none (c .before .args .mode) (c .match .rest .0 .1) (c .match .rest .1))
+unfolding row
+returns-3 c = sym (ap row (c .match .keys3))
+
+returns-4 : tie.Need-returns-4
+unfolding row
+returns-4 c = sym (ap row (c .match .keys4))
+
+returns-5 : tie.Need-returns-5
+returns-5 c =
+    let others = c .match .rest in
+    sym (none (c .before .args .mode) (others .0 .0 .0 .1) (others .0 .0 .1) (others .0 .1) (others .1))
 
 pub row-of-spec : {M : Type 1} → statement M
-row-of-spec = tie.close (tie.spec returns returns-2 returns-3)
+row-of-spec = tie.close (tie.spec returns returns-2 returns-3 returns-4 returns-5)

@@ -1,21 +1,10 @@
 -- `receiver::run::hear` meets its contract.
 -- Assumes nothing.
 use borrow.Author.Needs.{needs}
-use native.Mathlib.Omega.{arith}
-use Rattle.frame.proofs.Sizes.{plain-octets}
 use Rattle.receiver.proofs.Hearing.{heard-is}
 use denote.Ref.{now}
 use Rattle.receiver.proofs.run.hear.Statement.{statement}
 use Rattle.receiver.proofs.run.hear.Tie as tie
-
-sub-read : tie.Need-sub-read
-sub-read c = search needs
-
-part-read-start : tie.Need-part-read-start
-part-read-start c = search needs
-
-part-read-end : tie.Need-part-read-end
-part-read-end c = let s = c .before in omega (arith, s .pre .1, plain-octets (s .args .row .gap) (s .pre .0))
 
 read-requires : tie.Need-read-requires
 read-requires c κs = search needs
@@ -38,19 +27,16 @@ returns c =
     let parity = command .before in
     let bits = parity .before in
     let r = bits .before .before .read in
-    let s = bits .before .before .before .before .before in
+    let s = bits .before .before .before .before in
     let a = s .args in
     heard-is (a .row) (now (a .lane)) (r .result .first) (r .result .second) (bits .carried .result) (parity .parity .result) (command .command .result)
-    (c .invalid-count .result) (r .result .octets) (s .pre .0) (r .ensures .1 .0) (r .ensures .1 .1) (r .ensures .0) (bits .carried .ensures)
+    (c .invalid-count .result) (r .result .octets) (s .pre .0) (s .pre .1) (r .ensures .1 .0) (r .ensures .1 .1) (r .ensures .0) (bits .carried .ensures)
     (parity .parity .ensures) (command .command .ensures) (c .invalid-count .ensures)
 
 pub hear-spec : {M : Type 1} → statement M
 hear-spec =
     tie.close
     (tie.spec
-    sub-read
-    part-read-start
-    part-read-end
     read-requires
     carried-requires
     parity-requires

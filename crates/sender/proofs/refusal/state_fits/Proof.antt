@@ -19,7 +19,13 @@ returns-3 c = simp (lt-ltb _ _ (c .before .before .before .before .if1 .left), l
 
 returns-4 : tie.Need-returns-4
 unfolding stateFits
-returns-4 c = simp (lt-ltb _ _ (c .before .before .before .before .if1 .left), lt-ltb _ _ (c .before .before .if2 .left), lt-ltb _ _ (c .if3 .left))
+returns-4 c =
+    simp (lt-ltb _ _ (c .before .before .before .before .before .before .if1 .left), lt-ltb _ _ (c .before .before .before .before .if2 .left), lt-ltb _ _ (c .before .before .if3 .left), le-ltb _ _ (c .if4 .taken))
+
+returns-5 : tie.Need-returns-5
+unfolding stateFits
+returns-5 c =
+    simp (lt-ltb _ _ (c .before .before .before .before .before .before .if1 .left), lt-ltb _ _ (c .before .before .before .before .if2 .left), lt-ltb _ _ (c .before .before .if3 .left), lt-ltb _ _ (c .if4 .left))
 
 pub state-fits-spec : {M : Type 1} → statement M
-state-fits-spec = tie.close (tie.spec returns returns-2 returns-3 returns-4)
+state-fits-spec = tie.close (tie.spec returns returns-2 returns-3 returns-4 returns-5)

@@ -37,8 +37,8 @@ returns c =
     let turned = c .before .before .before .before .before .before .before .before .before .before .before .scramble-multiblock in
     let own = c .before .before .before .before .before .before .before .before .parity-of in
     let word = c .before .before .before .before .before .before .word in
-    sent-one (a .row) (start .pre .0) (a .e) (a .state) (now (a .user)) (turned .result .blocks) (now (a .lane)) _ (a .command) (turned .result .history) (word .result) (own .result) (c .number-after .result) (start .pre .1)
-    (turned .ensures .0) (turned .ensures .1) (word .ensures) (c .before .before .before .write .ensures) (own .ensures) (c .number-after .ensures)
+    sent-one (a .row) (start .pre .0) (a .e) (a .state) (now (a .user)) (turned .result .blocks) (now (a .lane)) _ (a .command) (turned .result .history) (word .result) (own .result) (c .number-after .result) (c .before .before .before .write .result) (start .pre .1)
+    (turned .ensures .0) (turned .ensures .1) (word .ensures) (c .before .before .before .write .ensures .1) (own .ensures) (c .number-after .ensures) (c .before .before .before .write .ensures .0)
 
 pub send-one-spec : {M : Type 1} → statement M
 send-one-spec =

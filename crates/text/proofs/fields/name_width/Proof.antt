@@ -1,24 +1,30 @@
 -- `text::fields::name_width` meets its contract.
 -- Assumes nothing.
-use mathlib.Core.Path.{sym, ap}
-use native.Mathlib.Omega.{arith}
 use borrow.Author.Needs.{needs}
-use lib.ListN.{length}
-use Rattle.text.proofs.Decimal.{name-is}
+use native.Mathlib.Omega.{arith}
+use Rattle.text.proofs.Names.{name-length}
 use Rattle.text.proofs.fields.name_width.Statement.{statement}
 use Rattle.text.proofs.fields.name_width.Tie as tie
 
-enum-told : tie.Need-enum-told
-enum-told c = search needs
+sync-width-requires : tie.Need-sync-width-requires
+sync-width-requires c κs = search needs
 
-enum-told-2 : tie.Need-enum-told-2
-enum-told-2 c = search needs
+shape-width-requires : tie.Need-shape-width-requires
+shape-width-requires c κs = search needs
+
+add-result : tie.Need-add-result
+add-result c = search needs
+
+add-result-2 : tie.Need-add-result-2
+add-result-2 c = search needs
 
 returns : tie.Need-returns
-returns c = (sym (ap length (name-is (c .before .before .args .row) _ (c .enum-told .given .1))), omega arith)
-
-returns-2 : tie.Need-returns-2
-returns-2 c = (sym (ap length (name-is (c .before .before .args .row) _ (c .enum-told2 .given .1))), omega arith)
+returns c =
+    let total = name-length (c .before .before .args .row) in
+    let x = c .before .sync-width .ensures in
+    let y = c .shape-width .ensures in
+    (omega arith, omega arith)
 
 pub name-width-spec : {M : Type 1} → statement M
-name-width-spec = tie.close (tie.spec enum-told enum-told-2 returns returns-2)
+name-width-spec =
+    tie.close (tie.spec sync-width-requires shape-width-requires add-result add-result-2 returns)

@@ -21,16 +21,13 @@ slice-write-text-4 : tie.Need-slice-write-text-4
 slice-write-text-4 c = simp length-set (omega arith)
 
 slice-write-text-5 : tie.Need-slice-write-text-5
-slice-write-text-5 c = simp length-set (omega arith)
-
-slice-write-text-6 : tie.Need-slice-write-text-6
-slice-write-text-6 c = search needs
+slice-write-text-5 c = search needs
 
 same-length : tie.Need-same-length
 same-length c = search needs
 
 returns : tie.Need-returns
-returns c = wrote-stored (99 ∷ 114 ∷ 99 ∷ 49 ∷ 50 ∷ 32 ∷ []) (c .args .text .now) 0 (c .pre)
+returns c = wrote-stored (99 ∷ 114 ∷ 99 ∷ 49 ∷ 50 ∷ []) (c .args .text .now) 0 (c .pre)
 
 pub put-crc12-spec : {M : Type 1} → statement M
 put-crc12-spec =
@@ -41,6 +38,5 @@ put-crc12-spec =
     slice-write-text-3
     slice-write-text-4
     slice-write-text-5
-    slice-write-text-6
     same-length
     returns)

@@ -15,16 +15,13 @@ slice-write-text-2 : tie.Need-slice-write-text-2
 slice-write-text-2 c = simp length-set (omega arith)
 
 slice-write-text-3 : tie.Need-slice-write-text-3
-slice-write-text-3 c = simp length-set (omega arith)
-
-slice-write-text-4 : tie.Need-slice-write-text-4
-slice-write-text-4 c = search needs
+slice-write-text-3 c = search needs
 
 same-length : tie.Need-same-length
 same-length c = search needs
 
 returns : tie.Need-returns
-returns c = wrote-stored (102 ∷ 101 ∷ 99 ∷ 32 ∷ []) (c .args .text .now) 0 (c .pre)
+returns c = wrote-stored (102 ∷ 101 ∷ 99 ∷ []) (c .args .text .now) 0 (c .pre)
 
 pub put-fec-spec : {M : Type 1} → statement M
 put-fec-spec =
@@ -33,6 +30,5 @@ put-fec-spec =
     slice-write-text
     slice-write-text-2
     slice-write-text-3
-    slice-write-text-4
     same-length
     returns)

@@ -1,47 +1,45 @@
 -- `text::fields::put_name` meets its contract.
 -- Assumes nothing.
 use borrow.Author.Needs.{needs}
-use mathlib.Core.Path.{sym, ap}
+use mathlib.Core.List.{[], _∷_, _++_}
 use native.Mathlib.Omega.{arith}
 use lib.ListN.{length}
-use Rattle.text.proofs.Decimal.{name-is}
-use Rattle.text.proofs.Wrote.{wrote-is}
+use Rattle.text.specs.Text.{shapeName, nameOf}
+use Rattle.text.proofs.Names.{name-length}
+use Rattle.text.proofs.Wrote.{wrote-then, room-first, room-then, room-start}
 use Rattle.text.proofs.fields.put_name.Statement.{statement}
 use Rattle.text.proofs.fields.put_name.Tie as tie
 
-enum-told : tie.Need-enum-told
-enum-told c = search needs
+put-sync-requires : tie.Need-put-sync-requires
+put-sync-requires c κs = omega (arith, name-length (c .before .before .args .row), c .before .before .pre)
 
-put-crc12-requires : tie.Need-put-crc12-requires
-put-crc12-requires c κs = omega (arith, ap length (name-is (c .before .before .before .before .args .row) _ (c .before .enum-told .given .1)), c .before .before .before .before .pre)
+put-shape-requires : tie.Need-put-shape-requires
+unfolding nameOf
+put-shape-requires c κs =
+    let a = c .before .before .before .before .before .before .args in
+    let room = room-then (shapeName (a .row .gap) ++ (32 ∷ [])) (room-start (nameOf (a .row)) (length (a .text .now)) (c .before .before .before .before .before .before .pre)) (c .before .before .before .put-sync .ensures) in
+    room-first (shapeName (a .row .gap)) (32 ∷ []) _ _ room
 
-enum-told-2 : tie.Need-enum-told-2
-enum-told-2 c = search needs
-
-put-fec-requires : tie.Need-put-fec-requires
-put-fec-requires c κs = omega (arith, ap length (name-is (c .before .before .before .before .args .row) _ (c .before .enum-told2 .given .1)), c .before .before .before .before .pre)
+put-octet-requires : tie.Need-put-octet-requires
+unfolding nameOf
+put-octet-requires c κs =
+    let a = c .before .before .before .before .before .before .before .before .before .before .args in
+    let room = room-then (shapeName (a .row .gap) ++ (32 ∷ [])) (room-start (nameOf (a .row)) (length (a .text .now)) (c .before .before .before .before .before .before .before .before .before .before .pre)) (c .before .before .before .before .before .before .before .put-sync .ensures) in
+    omega (arith, room-then (32 ∷ []) room (c .before .before .before .put-shape .ensures))
 
 same-length : tie.Need-same-length
 same-length c = search needs
 
 returns : tie.Need-returns
-returns c = wrote-is (sym (name-is (c .before .before .before .before .before .before .before .args .row) _ (c .before .before .before .before .enum-told .given .1))) (c .before .before .put-crc12 .ensures)
-
-same-length-2 : tie.Need-same-length-2
-same-length-2 c = search needs
-
-returns-2 : tie.Need-returns-2
-returns-2 c = wrote-is (sym (name-is (c .before .before .before .before .before .before .before .args .row) _ (c .before .before .before .before .enum-told2 .given .1))) (c .before .before .put-fec .ensures)
+unfolding nameOf
+returns c = wrote-then (c .before .before .before .before .before .before .before .before .before .before .put-sync .ensures) (wrote-then (c .before .before .before .before .before .before .put-shape .ensures) (c .before .before .put-octet .ensures))
 
 pub put-name-spec : {M : Type 1} → statement M
 put-name-spec =
     tie.close
     (tie.spec
-    enum-told
-    put-crc12-requires
-    enum-told-2
-    put-fec-requires
+    put-sync-requires
+    put-shape-requires
+    put-octet-requires
     same-length
-    returns
-    same-length-2
-    returns-2)
+    returns)

@@ -1,0 +1,23 @@
+-- `blocks80::data_of` meets its contract.
+-- Assumes nothing.
+use borrow.Author.Needs.{needs}
+use native.Mathlib.Omega.{arith}
+use Rattle.blocks80.specs.inner.Half.{gathered}
+use Rattle.blocks80.proofs.data_of.Statement.{statement}
+use Rattle.blocks80.proofs.data_of.Tie as tie
+
+add-result : tie.Need-add-result
+add-result c = search needs
+
+add-result-2 : tie.Need-add-result-2
+add-result-2 c = search needs
+
+add-result-3 : tie.Need-add-result-3
+add-result-3 c = search needs
+
+returns : tie.Need-returns
+unfolding gathered
+returns c = omega arith
+
+pub data-of-spec : {M : Type 1} → statement M
+data-of-spec = tie.close (tie.spec add-result add-result-2 add-result-3 returns)

@@ -1,0 +1,2 @@
+-- What private functions promise to each other. No public promise cites it.
+pub mod Half

@@ -1,0 +1,2 @@
+-- By which gap a multiblock is written and read.
+pub mod Shape
