@@ -8,7 +8,7 @@ use native.Mathlib.Omega.{arith}
 use lib.ListN.{length, getD}
 use lib.Pow.{high, low, field, mod-mod-pow}
 use Rattle.bits.specs.Order.{bitAt, listFrom, bitsOf, number, digits}
-use Rattle.bits.proofs.Numbers.{bit-octet, number-first, number-lt}
+use Rattle.bits.proofs.Numbers.{bit-octet, low-digit, number-first, number-lt}
 
 pub list-ext : (f h : ℕ → ℕ) (k l n : ℕ) → ((j : ℕ) → j < n → f (k + j) ≡ h (l + j)) → listFrom f k n ≡ listFrom h l n
 unfolding listFrom
@@ -55,6 +55,12 @@ digits-none v = refl
 pub digits-first : (n v : ℕ) → digits (suc n) v ≡ v / 2 ^ n % 2 ∷ digits n v
 unfolding digits
 digits-first n v = refl
+
+-- the low bits of a number have its low digits
+pub digits-low : (n m v : ℕ) → n ≤ m → digits n (v % 2 ^ m) ≡ digits n v
+unfolding digits
+digits-low zero m v h = refl
+digits-low (suc n) m v h = ap₂ (λ (a : ℕ) (b : List ℕ). a ∷ b) (low-digit v m n h) (digits-low n m v (omega arith))
 
 -- the digits of the number that a run writes are the run
 module _ (f : ℕ → ℕ) (d : (k : ℕ) → f k < 2) where

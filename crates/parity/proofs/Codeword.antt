@@ -1,32 +1,23 @@
 -- The remainder of data, with the parity received, is the sum of the weights of the codeword's set positions. Octets 0 in front change no parity.
 -- Assumes nothing.
 use mathlib.Core.Path.{_≡_, refl, sym, ap, ap₂, _∙_}
-use mathlib.Core.Bool.{Bool, true, false}
 use mathlib.Core.List.{List, _∷_, _++_}
 use Prim.Native.Nat.{ℕ, zero, suc, _+_, _-_, _*_, _/_, _%_, _^_, _≤_, _<_}
 use native.Mathlib.Nat.{add-zero, zero-add, add-suc, suc-add, le-refl, mod-eq-of-lt, zero-lt-suc}
 use native.Mathlib.Omega.{arith}
-use lib.Dec.{lit<}
-use lib.ListN.{length, replicate}
+use lib.ListN.{replicate}
 use lib.Pow.{pow-pos, pow-lt}
 use lib.Bits.{bitXor, xor-lt, xor-self, xor-zero-r}
 use borrow.Author.Tests.{lt-ltb, le-ltb}
-use Rattle.bits.specs.Order.{bitAt, listFrom, number, digits, bitsOf}
+use Rattle.bits.specs.Order.{listFrom, number, digits, bitsOf}
 use Rattle.bits.proofs.Xor.{odd-lt, xor-assoc, xor-swap}
-use Rattle.bits.proofs.Lists.{list-ext, bitsFrom, from-start}
-use Rattle.bits.proofs.Octets.{bit-drop}
 use Rattle.bits.proofs.Numbers.{number-none, number-first, number-lt, number-ext, number-whole}
 use Rattle.polynomial.specs.Polynomial.{scale, timesPower, power}
 use Rattle.polynomial.specs.Remainder.{next, remainderFrom, remainder}
 use Rattle.polynomial.proofs.Remainder.{from-zero, from-none, from-first, from-digits, next-power, remainder-lt}
-use Rattle.polynomial.proofs.Register.{next-octets}
+use Rattle.polynomial.proofs.Register.{first-octet}
 use Rattle.polynomial.proofs.Polynomial.{scale-xor, scale-above, scale-lt, timesPower-none, timesPower-zero, timesPower-lt, power-low}
-use Rattle.parity.specs.Codeword.{Code, codeOf, parityOf, weight, codeword, weighed, remainderOf}
-
--- a polynomial's lower part is below 2 to its width
-pub code-fits : (fec : Bool) → codeOf fec .lower < 2 ^ codeOf fec .width
-code-fits true = lit< tt
-code-fits false = lit< tt
+use Rattle.parity.specs.Codeword.{Code, parityOf, weight, codeword, weighed, remainderOf}
 
 module _ (C : Code) where
   -- the same positions set, the same sum
@@ -140,23 +131,15 @@ pub parity-lt : (C : Code) → C .lower < 2 ^ C .width → (octets : List ℕ) �
 unfolding parityOf
 parity-lt C fits octets = remainder-lt (C .width) (C .lower) fits (bitsOf octets)
 
--- past an octet 0 in front, the bits are those of the rest
-after-zero : (octets : List ℕ) → bitsFrom (0 ∷ octets) 1 ≡ bitsOf octets
-after-zero octets =
-    ap (listFrom (bitAt (0 ∷ octets)) 8) {x = 8 * (length (0 ∷ octets) - 1)} {y = 8 * (length octets - 0)} (omega arith)
-    ∙ list-ext (bitAt (0 ∷ octets)) (bitAt octets) 8 0 (8 * (length octets - 0)) (λ j _. sym (bit-drop 1 (0 ∷ octets) j) ∙ ap (bitAt octets) (sym (zero-add j)))
-    ∙ from-start octets
-
--- and it leaves a zero start as it is
+-- an octet 0 in front leaves a zero start as it is
 leading-zero : (C : Code) (octets : List ℕ) → parityOf C (0 ∷ octets) ≡ parityOf C octets
 unfolding parityOf
 leading-zero C octets =
     let w = C .width in
     let g = C .lower in
     sym (from-zero w g (bitsOf (0 ∷ octets)))
-    ∙ ap (remainderFrom w g 0) (sym (from-start (0 ∷ octets)))
-    ∙ sym (next-octets w g 0 0 (0 ∷ octets) (zero-lt-suc (length octets)))
-    ∙ ap₂ (remainderFrom w g) (from-digits w g 8 0 0 0 0 ∙ xor-self (remainderFrom w g 0 (digits 8 0))) (after-zero octets)
+    ∙ first-octet w g 0 0 octets
+    ∙ ap (λ (s : ℕ). remainderFrom w g s (bitsOf octets)) (from-digits w g 8 0 0 0 0 ∙ xor-self (remainderFrom w g 0 (digits 8 0)))
     ∙ from-zero w g (bitsOf octets)
 
 pub leading-zeros : (C : Code) (n : ℕ) (octets : List ℕ) → parityOf C (replicate n 0 ++ octets) ≡ parityOf C octets

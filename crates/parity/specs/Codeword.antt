@@ -1,5 +1,4 @@
 -- The codes and their codewords: clauses 7.4.2 and 7.5.2; document 01, "Parity". Assumes nothing.
-use mathlib.Core.Bool.{Bool, true, false}
 use mathlib.Core.List.{List}
 use Prim.Native.Nat.{ℕ, zero, suc, _-_, _/_, _%_, _^_}
 use lib.Dec.{ltb}
@@ -22,11 +21,6 @@ crc12 = record { width = 12; lower = 0x30F; positions = 2060; limit = 12 }
 -- x^26 + x^21 + x^17 + x^9 + x^4 + 1
 abbrev pub fec : Code
 fec = record { width = 26; lower = 0x0220211; positions = 2074; limit = 9 }
-
--- the code that corrects, or the one that only detects
-abbrev pub codeOf : Bool → Code
-codeOf true = fec
-codeOf false = crc12
 
 -- the parity of some octets
 unfoldable pub parityOf : Code → List ℕ → ℕ

@@ -29,8 +29,8 @@ impl Crc12 {
     pub fn of(octets: &[u8]) -> u32
         ensures { λ r. ⌜ r ≡ parityOf crc12 (now (octets .entry)) ⌝ }
     {
+        let r = rows::of_octets(octets);
         let count = octets.len() / 8;
-        let r = word::crc12_words(octets, count);
         bitwise::rest(Crc12::WIDTH, Crc12::LOWER, r, octets, 8 * count)
     }
 
@@ -38,7 +38,7 @@ impl Crc12 {
     pub fn of_words(words: &[u64]) -> u32
         ensures { λ r. ⌜ r ≡ parityOf crc12 (octetsIn (now (words .entry))) ⌝ }
     {
-        word::of_words(false, words)
+        rows::of_words(words)
     }
 }
 
@@ -66,7 +66,7 @@ impl Fec {
     pub fn of_words(words: &[u64]) -> u32
         ensures { λ r. ⌜ r ≡ parityOf fec (octetsIn (now (words .entry))) ⌝ }
     {
-        word::of_words(true, words)
+        word::of_words(words)
     }
 
     // The burst of at most LIMIT bits that makes a remainder, if there is one: no two make the same.

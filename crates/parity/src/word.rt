@@ -1,10 +1,10 @@
-// Remainders word by word, without a table: clauses 7.4.2 and 7.5.2.
+// The FEC remainder word by word, by shifts and without a table: clause 7.5.2.
 ghost use mathlib.Core.Path.{_≡_};
 ghost use Prim.Native.Nat.{_*_, _^_, _<_, _≤_};
 ghost use lib.ListN.{length};
 ghost use Rattle.bits.specs.Order.{bitAt, listFrom, digits, wordBit};
 ghost use Rattle.polynomial.specs.Remainder.{remainderFrom};
-ghost use Rattle.parity.specs.Codeword.{crc12, fec, codeOf};
+ghost use Rattle.parity.specs.Codeword.{fec};
 use crate::Fec;
 
 // All FEC parities are below this.
@@ -30,30 +30,7 @@ fn fec_word(r: u32, word: u64) -> u32
     ((q8 ^ (q8 << 4) ^ (q8 << 9) ^ (q8 << 17) ^ (q8 << 21)) % FEC_PARITIES) as u32
 }
 
-// 64 bits more with CRC-12, bit by bit, in a register whose upper 12 bits are the remainder.
-fn crc12_word(r: u32, word: u64) -> u32
-    requires { ⌜ r < 2 ^ crc12 .width ⌝ }
-    ensures { λ s. ⌜ s ≡ remainderFrom (crc12 .width) (crc12 .lower) r (digits 64 word) ⌝ }
-{
-    let mut register = word ^ (wide(r) << 52);
-    for _ in 0..64u32 {
-        register = (register << 1) ^ ((register >> 63) * 0x30F0_0000_0000_0000);
-    }
-    (register >> 52) as u32
-}
-
-// 64 bits more with FEC, which corrects, or CRC-12, which only detects.
-fn next_word(corrects: bool, r: u32, word: u64) -> u32
-    requires { ⌜ r < 2 ^ codeOf corrects .width ⌝ }
-    ensures { λ s. ⌜ s ≡ remainderFrom (codeOf corrects .width) (codeOf corrects .lower) r (digits 64 word) ⌝ }
-{
-    if corrects {
-        return fec_word(r, word);
-    }
-    crc12_word(r, word)
-}
-
-// The first octets with FEC, a whole number of words. Each code has its own loop over octets, so that the compiler takes it into its caller.
+// The first octets with FEC, a whole number of words.
 pub(crate) fn fec_words(octets: &[u8], count: usize) -> u32
     requires { ⌜ 8 * count ≤ length (now octets) ⌝ }
     ensures { λ s. ⌜ s ≡ remainderFrom (fec .width) (fec .lower) 0 (listFrom (bitAt (now (octets .entry))) 0 (64 * count)) ⌝ }
@@ -65,25 +42,13 @@ pub(crate) fn fec_words(octets: &[u8], count: usize) -> u32
     s
 }
 
-// The same with CRC-12.
-pub(crate) fn crc12_words(octets: &[u8], count: usize) -> u32
-    requires { ⌜ 8 * count ≤ length (now octets) ⌝ }
-    ensures { λ s. ⌜ s ≡ remainderFrom (crc12 .width) (crc12 .lower) 0 (listFrom (bitAt (now (octets .entry))) 0 (64 * count)) ⌝ }
-{
-    let mut s: u32 = 0;
-    for i in 0..count {
-        s = crc12_word(s, bits::word_at(octets, 8 * i));
-    }
-    s
-}
-
 // All of a list of words.
-pub(crate) fn of_words(corrects: bool, words: &[u64]) -> u32
-    ensures { λ s. ⌜ s ≡ remainderFrom (codeOf corrects .width) (codeOf corrects .lower) 0 (listFrom (wordBit (now (words .entry))) 0 (64 * length (now (words .entry)))) ⌝ }
+pub(crate) fn of_words(words: &[u64]) -> u32
+    ensures { λ s. ⌜ s ≡ remainderFrom (fec .width) (fec .lower) 0 (listFrom (wordBit (now (words .entry))) 0 (64 * length (now (words .entry)))) ⌝ }
 {
     let mut s: u32 = 0;
     for i in 0..words.len() {
-        s = next_word(corrects, s, words[i]);
+        s = fec_word(s, words[i]);
     }
     s
 }

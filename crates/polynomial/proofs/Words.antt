@@ -5,19 +5,19 @@ use Prim.Native.Nat.{ℕ, _+_, _-_, _*_, _/_, _%_, _^_, _≤_, _<_}
 use native.Mathlib.Nat.{zero-add}
 use native.Mathlib.Omega.{arith}
 use lib.ListN.{length, getD}
-use lib.Dec.{T, eqb, lit≤}
+use lib.Dec.{T, eqb, lit<, lit≤}
 use lib.Pow.{shl-exact}
-use lib.Bits.{bitXor}
+use lib.Bits.{bitXor, xor-lt}
 use Rattle.bits.specs.Order.{bitAt, bitsOf, listFrom, number, digits, wordBit, octetsIn}
 use Rattle.bits.proofs.Xor.{xor-swap}
-use Rattle.bits.proofs.Additive.{Additive, shift-right, shift-left, low-bits, after}
+use Rattle.bits.proofs.Additive.{Additive, agree-test, shift-right, shift-left, low-bits, after}
 use Rattle.bits.proofs.Lists.{list-append, digits-number, from-start}
 use Rattle.bits.proofs.WordLists.{wordBit-lt, number-word, bitsOf-octetsIn}
 use Rattle.bits.proofs.Tests.{every}
 use Rattle.polynomial.specs.Polynomial.{scale, timesX}
 use Rattle.polynomial.specs.Remainder.{next, remainderFrom, remainder}
-use Rattle.polynomial.proofs.Remainder.{from-append}
-use Rattle.polynomial.proofs.Division.{divides}
+use Rattle.polynomial.proofs.Remainder.{from-append, from-digits}
+use Rattle.polynomial.proofs.Digits.{laid-over}
 
 abbrev fecFrom : ℕ → List ℕ → ℕ
 fecFrom = remainderFrom 26 0x0220211
@@ -84,12 +84,11 @@ word-test : T (every (λ i. eqb (leftOver (2 ^ i)) (fecFrom 0 (digits 64 (2 ^ i)
 unfolding every leftOver product quotient rounds ups downs shifts remainderFrom digits next scale timesX
 word-test = tt
 
--- at each bit of a remainder, which the code adds to the word's top
-start-test : T (every (λ i. eqb (leftOver (2 ^ i * 2 ^ 38)) (fecFrom (2 ^ i) (digits 64 0))) 26)
-unfolding every leftOver product quotient rounds ups downs shifts remainderFrom digits next scale timesX
-start-test = tt
+-- and so of every word
+of-word : (word : ℕ) → word < 2 ^ 64 → leftOver word ≡ fecFrom 0 (digits 64 word)
+of-word = agree-test leftOver (λ x. fecFrom 0 (digits 64 x)) leftOver-additive (from-digits 26 0x0220211 64 0 0) 64 word-test
 
--- as the code writes it out, which casts r first
+-- as the code writes it out, which casts the remainder r so far, and adds it to the word's top
 pub left-over : (r word wide : ℕ) → r < 2 ^ 26 → word < 2 ^ 64 → wide ≡ r
     → let q0 = bitXor word (wide * 2 ^ 38 % 2 ^ 64) in
     let q1 = bitXor (bitXor (bitXor (bitXor (bitXor q0 (q0 / 2 ^ 5)) (q0 / 2 ^ 9)) (q0 / 2 ^ 17)) (q0 / 2 ^ 22)) (q0 / 2 ^ 26) in
@@ -100,7 +99,8 @@ pub left-over : (r word wide : ℕ) → r < 2 ^ 26 → word < 2 ^ 64 → wide �
 unfolding leftOver product quotient rounds ups downs shifts
 left-over r word wide h l e =
     ap (λ (x : ℕ). product (bitXor word x) % 2 ^ 26) (ap (λ (x : ℕ). x * 2 ^ 38 % 2 ^ 64) e ∙ shl-exact 26 38 64 h (lit≤ tt))
-    ∙ divides 26 0x0220211 38 leftOver leftOver-additive word-test start-test r word h l
+    ∙ of-word (bitXor word (r * 2 ^ 38)) (xor-lt 64 word (r * 2 ^ 38) l (omega arith))
+    ∙ sym (laid-over 26 0x0220211 (lit< tt) 38 r word h)
 
 -- ---- word by word
 

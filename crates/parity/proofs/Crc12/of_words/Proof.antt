@@ -1,8 +1,6 @@
 -- `parity::Crc12::of_words` meets its contract.
 -- Assumes nothing.
 use borrow.Author.Needs.{needs}
-use mathlib.Core.Path.{_∙_}
-use Rattle.polynomial.proofs.Words.{words-all}
 use Rattle.parity.specs.Codeword.{parityOf}
 use Rattle.parity.proofs.Crc12.of_words.Statement.{statement}
 use Rattle.parity.proofs.Crc12.of_words.Tie as tie
@@ -12,7 +10,7 @@ of-words-requires c κs = search needs
 
 returns : tie.Need-returns
 unfolding parityOf
-returns c = c .of-words .ensures ∙ words-all 12 0x30F (c .before .before .args .words .now)
+returns c = c .of-words .ensures
 
 pub of-words-spec : {M : Type 1} → statement M
 of-words-spec = tie.close (tie.spec of-words-requires returns)

@@ -2,15 +2,14 @@
 -- Assumes nothing.
 use borrow.Author.Needs.{needs}
 use Prim.Native.Nat.{_*_, _/_}
-use mathlib.Core.Bool.{true}
 use native.Mathlib.Omega.{arith}
+use lib.Dec.{lit<}
 use lib.ListN.{length}
 use lib.Pow.{pow-pos}
 use Rattle.bits.specs.Order.{bitAt, listFrom}
 use Rattle.polynomial.proofs.Remainder.{from-lt}
 use Rattle.polynomial.proofs.Words.{words-rest}
 use Rattle.parity.specs.Codeword.{parityOf}
-use Rattle.parity.proofs.Codeword.{code-fits}
 use Rattle.parity.proofs.Fec.of.Statement.{statement}
 use Rattle.parity.proofs.Fec.of.Tie as tie
 
@@ -23,7 +22,7 @@ mul-rest c = search needs
 rest-requires : tie.Need-rest-requires
 rest-requires c κs =
     let octets = c .before .before .args .octets .now in
-    (search needs, search needs, rw (c .fec-words .ensures) (from-lt 26 0x0220211 (code-fits true) 0 (listFrom (bitAt octets) 0 (64 * (length octets / 8))) (pow-pos 26)), omega arith)
+    (search needs, search needs, rw (c .fec-words .ensures) (from-lt 26 0x0220211 (lit< tt) 0 (listFrom (bitAt octets) 0 (64 * (length octets / 8))) (pow-pos 26)), omega arith)
 
 returns : tie.Need-returns
 unfolding parityOf

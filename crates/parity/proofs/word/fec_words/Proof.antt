@@ -3,14 +3,13 @@
 use borrow.Author.Needs.{needs}
 use Prim.Native.Nat.{ℕ, _-_, _*_, _≤_}
 use mathlib.Core.Path.{_≡_, sym, ap, _∙_}
-use mathlib.Core.Bool.{true}
 use native.Mathlib.Omega.{arith}
+use lib.Dec.{lit<}
 use Rattle.bits.specs.Order.{bitAt, listFrom}
 use Rattle.bits.proofs.Numbers.{bitAt-lt}
 use Rattle.polynomial.specs.Remainder.{remainderFrom}
 use Rattle.polynomial.proofs.Remainder.{from-none, from-lt}
 use Rattle.polynomial.proofs.Words.{word-more}
-use Rattle.parity.proofs.Codeword.{code-fits}
 use lib.Pow.{pow-pos}
 use Rattle.parity.proofs.word.fec_words.Statement.{statement}
 use Rattle.parity.proofs.word.fec_words.Tie as tie
@@ -35,7 +34,7 @@ fec-word-requires : tie.Need-fec-word-requires Inv-loop μ-loop
 fec-word-requires c κs =
     let l = c .before .before .loop in
     let a = c .before .before .before .before .args in
-    rw (l .inv .1) (from-lt 26 0x0220211 (code-fits true) 0 (listFrom (bitAt (a .octets .now)) 0 (64 * l .i)) (pow-pos 26))
+    rw (l .inv .1) (from-lt 26 0x0220211 (lit< tt) 0 (listFrom (bitAt (a .octets .now)) 0 (64 * l .i)) (pow-pos 26))
 
 add-i : tie.Need-add-i Inv-loop μ-loop
 add-i c = search needs

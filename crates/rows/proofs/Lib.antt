@@ -1,0 +1,4 @@
+-- Laws of the rows.
+pub mod Summed
+pub mod Rows
+pub mod Blocks

@@ -1,0 +1,2 @@
+-- What the rows hold.
+pub mod Rows
