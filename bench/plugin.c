@@ -9,6 +9,7 @@
 #define SHOWN __attribute__((visibility("default")))
 
 struct qemu_plugin_tb;
+struct qemu_plugin_insn;
 typedef struct qemu_info_t qemu_info_t;
 typedef uint64_t qemu_plugin_id_t;
 void qemu_plugin_register_vcpu_tb_trans_cb(qemu_plugin_id_t id, void (*translated)(qemu_plugin_id_t, struct qemu_plugin_tb *));
@@ -16,11 +17,18 @@ void qemu_plugin_register_vcpu_tb_exec_inline(struct qemu_plugin_tb *run, int ad
 void qemu_plugin_register_atexit_cb(qemu_plugin_id_t id, void (*ended)(qemu_plugin_id_t, void *), void *given);
 size_t qemu_plugin_tb_n_insns(const struct qemu_plugin_tb *run);
 uint64_t qemu_plugin_tb_vaddr(const struct qemu_plugin_tb *run);
+struct qemu_plugin_insn *qemu_plugin_tb_get_insn(const struct qemu_plugin_tb *run, size_t index);
+uint64_t qemu_plugin_insn_vaddr(const struct qemu_plugin_insn *instruction);
+size_t qemu_plugin_insn_size(const struct qemu_plugin_insn *instruction);
 
 SHOWN int qemu_plugin_version = 1;
 
+enum { PAGE = 4096 };
+
+/* `last` is the address of the last instruction; `crosses`, whether the first goes on past the end of its page. */
 static struct run {
-    uint64_t address, instructions, count;
+    uint64_t address, instructions, count, last;
+    int crosses;
     struct run *next;
 } *runs;
 
@@ -36,10 +44,21 @@ static void translated(qemu_plugin_id_t id, struct qemu_plugin_tb *code) {
             abort();
         run->address = address;
         run->instructions = instructions;
+        run->last = qemu_plugin_insn_vaddr(qemu_plugin_tb_get_insn(code, instructions - 1));
+        run->crosses = address % PAGE + qemu_plugin_insn_size(qemu_plugin_tb_get_insn(code, 0)) > PAGE;
         run->next = runs;
         runs = run;
     }
     qemu_plugin_register_vcpu_tb_exec_inline(code, 0, &run->count, 1);
+}
+
+/* An instruction across the end of a page is the first of its run. qemu names it as the last of the run that leads to it as well,
+   where it isn't executed. */
+static int named_twice(const struct run *run) {
+    const struct run *other = run->last != run->address ? runs : NULL;
+    while (other && (other->address != run->last || !other->crosses))
+        other = other->next;
+    return other != NULL;
 }
 
 static void ended(qemu_plugin_id_t id, void *given) {
@@ -49,8 +68,10 @@ static void ended(qemu_plugin_id_t id, void *given) {
     FILE *file = name ? fopen(name, "w") : NULL;
     if (!file)
         abort();
-    for (struct run *run = runs; run; run = run->next)
-        fprintf(file, "%lx %lu %lu\n", (unsigned long)run->address, (unsigned long)run->instructions, (unsigned long)run->count);
+    for (struct run *run = runs; run; run = run->next) {
+        uint64_t executed = run->instructions - (uint64_t)named_twice(run);
+        fprintf(file, "%lx %lu %lu\n", (unsigned long)run->address, (unsigned long)executed, (unsigned long)run->count);
+    }
     fclose(file);
 }
 
