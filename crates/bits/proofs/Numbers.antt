@@ -69,6 +69,10 @@ module _ (f : ℕ → ℕ) where
     pub number-high : (k a b : ℕ) → number f k (a + b) / 2 ^ b ≡ number f k a
     number-high k a b = ap (λ (x : ℕ). x / 2 ^ b) (number-split k a b) ∙ high (number f k a) b (number-lt (k + a) b)
 
+    -- and w bits with b below them what stands between
+    pub number-field : (k a w b : ℕ) → number f k (a + w + b) / 2 ^ b % 2 ^ w ≡ number f (k + a) w
+    number-field k a w b = ap (λ (x : ℕ). x % 2 ^ w) (number-high k (a + w) b) ∙ number-low k a w
+
     -- digit j of the number that a run writes is bit j of the run
     pub digit-number : (k n j : ℕ) → j < n → digit n (number f k n) j ≡ f (k + j)
     unfolding digit number

@@ -6,9 +6,9 @@ use native.Mathlib.Nat.{zero-add}
 use native.Mathlib.Omega.{arith}
 use lib.ListN.{length, getD, take, drop, replicate, List·getD-append}
 use lib.Seq.{getD-take, getD-drop, length-take-le, ext-getD}
-use Rattle.bits.specs.Order.{bitAt, listFrom, number, digit, octetsOf}
+use Rattle.bits.specs.Order.{bitAt, listFrom, bitsOf, number, digit, octetsOf}
 use Rattle.bits.proofs.Numbers.{digit-number, number-ext, number-zeros, number-octet, bit-octet}
-use Rattle.bits.proofs.Lists.{list-ext, length-list, getD-list}
+use Rattle.bits.proofs.Lists.{list-ext, length-list, getD-list, bitsFrom, from-start}
 
 -- ---- octets of a stream
 
@@ -51,6 +51,13 @@ pub bit-drop : (a : ℕ) (s : List ℕ) (k : ℕ) → bitAt (drop a s) k ≡ bit
 unfolding bitAt
 bit-drop a s k =
     ap₂ (λ (x y : ℕ). x / 2 ^ (7 - y) % 2) (getD-drop a s (k / 8) 0 ∙ ap (λ (x : ℕ). getD s x 0) {x = a + k / 8} {y = (8 * a + k) / 8} (omega arith)) (omega arith)
+
+-- past the first octet, the bits are those of the rest
+pub after-first : (v : ℕ) (octets : List ℕ) → bitsFrom (v ∷ octets) 1 ≡ bitsOf octets
+after-first v octets =
+    ap (listFrom (bitAt (v ∷ octets)) 8) {x = 8 * (length (v ∷ octets) - 1)} {y = 8 * (length octets - 0)} (omega arith)
+    ∙ list-ext (bitAt (v ∷ octets)) (bitAt octets) 8 0 (8 * (length octets - 0)) (λ j _. sym (bit-drop 1 (v ∷ octets) j) ∙ ap (bitAt octets) (sym (zero-add j)))
+    ∙ from-start octets
 
 -- the first n octets, and octets with others behind them
 pub bit-take : (n : ℕ) (s : List ℕ) (k : ℕ) → k < 8 * n → bitAt (take n s) k ≡ bitAt s k

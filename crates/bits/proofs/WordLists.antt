@@ -1,15 +1,15 @@
 -- Words made of a stream's bits have those bits, and their octets are the stream's: document 01, "From octets to lane bits". Assumes nothing.
 use mathlib.Core.Path.{_≡_, refl, sym, ap, ap₂, _∙_}
 use mathlib.Core.List.{List, [], _∷_, _++_}
-use Prim.Native.Nat.{ℕ, zero, suc, _+_, _-_, _*_, _/_, _%_, _^_, _<_}
-use native.Mathlib.Nat.{zero-add, add-zero, add-suc, mod-eq-of-lt}
+use Prim.Native.Nat.{ℕ, _+_, _-_, _*_, _/_, _%_, _^_, _<_}
+use native.Mathlib.Nat.{zero-add, mod-eq-of-lt}
 use native.Mathlib.Omega.{arith}
 use lib.ListN.{length, getD, set}
-use Rattle.bits.specs.Order.{bitAt, listFrom, bitsOf, number, digit, digits, octetsOf, wordBit, wordsOf, octetsIn, laid}
-use Rattle.bits.proofs.Numbers.{digit-lt, digit-number, number-ext, number-whole}
+use Rattle.bits.specs.Order.{bitAt, listFrom, bitsOf, number, digit, octetsOf, wordBit, wordsOf, octetsIn, laid, laidAt}
+use Rattle.bits.proofs.Numbers.{digit-lt, digit-number, number-ext, number-whole, number-digits}
 use Rattle.bits.proofs.Lists.{list-ext, list-append, length-list, getD-list}
 use Rattle.bits.proofs.Octets.{length-octetsOf, bit-octetsOf, octetsOf-ext}
-use Rattle.bits.proofs.Laid.{laid-set}
+use Rattle.bits.proofs.Laid.{laid-start, laid-all, laid-set}
 
 module _ (words : List ℕ) where
   pub wordBit-lt : (k : ℕ) → wordBit words k < 2
@@ -78,3 +78,12 @@ module _ (f : ℕ → ℕ) where
     octetsIn-wordsOf n =
         ap (λ (x : ℕ). octetsOf (wordBit (wordsOf f n)) (8 * x)) (length-wordsOf n)
         ∙ octetsOf-ext (wordBit (wordsOf f n)) f (8 * n) (λ k h. bit-wordsOf n k (omega arith))
+
+-- a word laid over eight octets reads back
+pub word-back : (word : ℕ) (old : List ℕ) → word < 2 ^ 64 → length old ≡ 8 → number (bitAt (laidAt (octetsOf (digit 64 word) 8) 0 old)) 0 64 ≡ word
+word-back word old h e =
+    let new = octetsOf (digit 64 word) 8 in
+    let n : length new ≡ 8 = length-octetsOf (digit 64 word) 8 in
+    ap (λ (l : List ℕ). number (bitAt l) 0 64) (laid-start new old (omega arith) ∙ laid-all new old (omega arith))
+    ∙ number-ext (bitAt new) (digit 64 word) 0 0 64 (λ j l. bit-octetsOf (digit 64 word) (digit-lt 64 word) 8 (0 + j) (omega arith))
+    ∙ number-digits 64 word h

@@ -2,16 +2,16 @@
 use mathlib.Core.Path.{_≡_, sym, ap, ap₂, _∙_}
 use mathlib.Core.List.{List, [], _∷_, _++_}
 use Prim.Native.Nat.{ℕ, zero, suc, _+_, _-_, _*_, _/_, _%_, _^_, _<_, _≤_}
-use native.Mathlib.Nat.{not-suc-le-zero, one-mul, lt-of-lt-of-le, mod-eq-of-lt, zero-add, zero-lt-suc, le-refl}
+use native.Mathlib.Nat.{not-suc-le-zero, one-mul, lt-of-lt-of-le, mod-eq-of-lt, zero-lt-suc, le-refl}
 use native.Mathlib.Numerals.{sub-one}
 use native.Mathlib.Omega.{arith}
 use lib.ListN.{length, getD, replicate}
 use lib.Pow.{pow-pos, pow-mono, shl-exact}
 use lib.Bits.{bitXor, bitAnd, and-mask, xor-comm}
-use Rattle.bits.specs.Order.{bitAt, listFrom, bitsOf, digits}
+use Rattle.bits.specs.Order.{bitsOf, digits}
 use Rattle.bits.proofs.Xor.{xor-assoc}
-use Rattle.bits.proofs.Lists.{list-ext, bitsFrom, from-start, from-next, from-end, digits-octet}
-use Rattle.bits.proofs.Octets.{bit-drop}
+use Rattle.bits.proofs.Lists.{bitsFrom, from-start, from-next, from-end, digits-octet}
+use Rattle.bits.proofs.Octets.{after-first}
 use Rattle.polynomial.specs.Polynomial.{scale, timesX, timesPower}
 use Rattle.polynomial.specs.Remainder.{next, remainderFrom}
 use Rattle.polynomial.proofs.Polynomial.{scale-xor, scale-and, scale-lt, top-lt, timesPower-none, timesPower-add}
@@ -71,17 +71,11 @@ unfolding remainderFrom
 no-octets w g r i octets h = ap (remainderFrom w g r) (from-end octets i h)
 
 -- an octet in front of others
-front : (v : ℕ) (octets : List ℕ) → bitsFrom (v ∷ octets) 1 ≡ bitsOf octets
-front v octets =
-    ap (listFrom (bitAt (v ∷ octets)) 8) {x = 8 * (length (v ∷ octets) - 1)} {y = 8 * (length octets - 0)} (omega arith)
-    ∙ list-ext (bitAt (v ∷ octets)) (bitAt octets) 8 0 (8 * (length octets - 0)) (λ j _. sym (bit-drop 1 (v ∷ octets) j) ∙ ap (bitAt octets) (sym (zero-add j)))
-    ∙ from-start octets
-
 pub first-octet : (w g r v : ℕ) (octets : List ℕ) → remainderFrom w g r (bitsOf (v ∷ octets)) ≡ remainderFrom w g (remainderFrom w g r (digits 8 v)) (bitsOf octets)
 first-octet w g r v octets =
     ap (remainderFrom w g r) (sym (from-start (v ∷ octets)))
     ∙ sym (next-octets w g r 0 (v ∷ octets) (zero-lt-suc (length octets)))
-    ∙ ap (remainderFrom w g (remainderFrom w g r (digits 8 v))) (front v octets)
+    ∙ ap (remainderFrom w g (remainderFrom w g r (digits 8 v))) (after-first v octets)
 
 -- n octets of zeros
 pub zero-octets : (w g n r : ℕ) → remainderFrom w g r (bitsOf (replicate n 0)) ≡ timesPower w g (8 * n) r

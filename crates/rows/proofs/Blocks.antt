@@ -4,14 +4,12 @@ use mathlib.Core.List.{List, []}
 use Prim.Native.Nat.{ℕ, zero, suc, _+_, _-_, _*_, _/_, _%_, _^_, _≤_, _<_}
 use native.Mathlib.Nat.{add-zero, add-suc, suc-add, zero-add, le-refl, mod-lt}
 use native.Mathlib.Omega.{arith}
-use lib.ListN.{length, getD}
+use lib.ListN.{getD}
 use lib.Pow.{pow-pos}
 use lib.Bits.{bitXor, xor-shr, xor-mod, xor-zero-r}
-use Rattle.bits.specs.Order.{bitAt, listFrom, number, digit, digits, octetsOf, laidAt}
-use Rattle.bits.proofs.Numbers.{bitAt-lt, digit-lt, number-low, number-high, number-ext, number-digits, number-octet}
+use Rattle.bits.specs.Order.{bitAt, listFrom, number, digits}
+use Rattle.bits.proofs.Numbers.{bitAt-lt, number-field, number-octet}
 use Rattle.bits.proofs.Lists.{getD-list, digits-low}
-use Rattle.bits.proofs.Octets.{length-octetsOf, bit-octetsOf}
-use Rattle.bits.proofs.Laid.{laid-start, laid-all}
 use Rattle.bits.proofs.Xor.{xor-assoc}
 use Rattle.polynomial.specs.Polynomial.{timesPower}
 use Rattle.polynomial.specs.Remainder.{remainderFrom}
@@ -21,29 +19,19 @@ use Rattle.rows.specs.Rows.{rowEntry, rowsFrom, eightRows}
 use Rattle.rows.proofs.Rows.{moved, entry-moved}
 
 -- octet k of the eight from `at` on, with octet k of a number of 64 bits over it
-module _ (octets : List ℕ) (at over k : ℕ) (octet-lt : getD octets (at + k) 0 < 256) where
-  pub index-laid : k < 8 → bitXor (getD octets (at + k) 0) (over / 2 ^ (8 * (7 - k)) % 256) ≡ bitXor (number (bitAt octets) (8 * at) 64) over / 2 ^ (8 * (7 - k)) % 256
-  index-laid h =
-      let f = bitAt octets in
-      let n = 8 * (7 - k) in
-      let high : number f (8 * at) 64 / 2 ^ n ≡ number f (8 * at) (8 * k + 8) =
-      ap (λ (m : ℕ). number f (8 * at) m / 2 ^ n) {x = 64} {y = 8 * k + 8 + n} (omega arith) ∙ number-high f (bitAt-lt octets) (8 * at) (8 * k + 8) n in
-      let own : number f (8 * at) (8 * k + 8) % 256 ≡ getD octets (at + k) 0 =
-      number-low f (bitAt-lt octets) (8 * at) (8 * k) 8
-      ∙ ap (λ (p : ℕ). number f p 8) {x = 8 * at + 8 * k} {y = 8 * (at + k)} (omega arith)
-      ∙ number-octet octets (at + k) octet-lt in
-      sym (ap (λ (x : ℕ). x % 256) (xor-shr (number f (8 * at) 64) over n)
-      ∙ xor-mod (number f (8 * at) 64 / 2 ^ n) (over / 2 ^ n) 8
-      ∙ ap (λ (x : ℕ). bitXor x (over / 2 ^ n % 256)) (ap (λ (x : ℕ). x % 256) high ∙ own))
-
--- a word put over eight octets reads back
-pub word-back : (word : ℕ) (old : List ℕ) → word < 2 ^ 64 → length old ≡ 8 → number (bitAt (laidAt (octetsOf (digit 64 word) 8) 0 old)) 0 64 ≡ word
-word-back word old h e =
-    let new = octetsOf (digit 64 word) 8 in
-    let n : length new ≡ 8 = length-octetsOf (digit 64 word) 8 in
-    ap (λ (l : List ℕ). number (bitAt l) 0 64) (laid-start new old (omega arith) ∙ laid-all new old (omega arith))
-    ∙ number-ext (bitAt new) (digit 64 word) 0 0 64 (λ j l. bit-octetsOf (digit 64 word) (digit-lt 64 word) 8 (0 + j) (omega arith))
-    ∙ number-digits 64 word h
+pub index-laid : (octets : List ℕ) (at over k : ℕ) → getD octets (at + k) 0 < 256 → k < 8
+    → bitXor (getD octets (at + k) 0) (over / 2 ^ (8 * (7 - k)) % 256) ≡ bitXor (number (bitAt octets) (8 * at) 64) over / 2 ^ (8 * (7 - k)) % 256
+index-laid octets at over k octet-lt h =
+    let f = bitAt octets in
+    let n = 8 * (7 - k) in
+    let own : number f (8 * at) 64 / 2 ^ n % 256 ≡ getD octets (at + k) 0 =
+    ap (λ (m : ℕ). number f (8 * at) m / 2 ^ n % 256) {x = 64} {y = 8 * k + 8 + n} (omega arith)
+    ∙ number-field f (bitAt-lt octets) (8 * at) (8 * k) 8 n
+    ∙ ap (λ (p : ℕ). number f p 8) {x = 8 * at + 8 * k} {y = 8 * (at + k)} (omega arith)
+    ∙ number-octet octets (at + k) octet-lt in
+    sym (ap (λ (x : ℕ). x % 256) (xor-shr (number f (8 * at) 64) over n)
+    ∙ xor-mod (number f (8 * at) 64 / 2 ^ n) (over / 2 ^ n) 8
+    ∙ ap (λ (x : ℕ). bitXor x (over / 2 ^ n % 256)) own)
 
 module _ (w g : ℕ) where
   row-at : (k n j : ℕ) → j < n → getD (rowsFrom w g k n) j [] ≡ listFrom (rowEntry w g (k + j)) 0 256
@@ -63,7 +51,7 @@ module _ (w g : ℕ) where
     abbrev pub restFrom : ℕ → ℕ
     restFrom k = remainderFrom w g 0 (digits (64 - 8 * k) block)
 
-    -- octet k leaves what its row has, and the others what they restFrom
+    -- octet k leaves what its row has, and the others what they left
     rest-more : (k v : ℕ) → k < 8 → v ≡ block / 2 ^ (8 * (7 - k)) % 256 → bitXor (rowEntry w g k v) (restFrom (k + 1)) ≡ restFrom k
     unfolding moved
     rest-more k v h e =

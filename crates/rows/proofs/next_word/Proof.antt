@@ -6,8 +6,8 @@ use mathlib.Core.Path.{refl, ap, _∙_}
 use mathlib.Core.List.{List}
 use lib.ListN.{replicate}
 use Rattle.bits.specs.Order.{bitAt, number, digits}
+use Rattle.bits.proofs.WordLists.{word-back}
 use Rattle.polynomial.specs.Remainder.{remainderFrom}
-use Rattle.rows.proofs.Blocks.{word-back}
 use Rattle.rows.proofs.next_word.Statement.{statement}
 use Rattle.rows.proofs.next_word.Tie as tie
 
