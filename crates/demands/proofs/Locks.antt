@@ -1,5 +1,5 @@
--- The headers of a lane that our sender made are those of an undamaged CRC-12 lane, so that the locks take them in time: document 01, "Lock
--- tables". Past the lane's end they are gone on with as if commands and parities were 0. Assumes nothing.
+-- The headers of a lane that our sender made are those of an undamaged CRC-12 lane, so that the locks go along it as along any such lane: document
+-- 01, "Lock tables". Past the lane's end they are gone on with as if commands and parities were 0. Assumes nothing.
 use mathlib.Core.Path.{_≡_, refl, sym, ap, _∙_, subst}
 use mathlib.Core.Bool.{true}
 use mathlib.Core.List.{List}
@@ -13,7 +13,7 @@ use Rattle.bits.specs.Choice.{bitOf}
 use Rattle.frame.specs.declared.modes.Sync.{Sync}
 use Rattle.frame.specs.declared.modes.Sync.the-variants.{Crc12}
 use Rattle.frame.specs.declared.modes.Row.{Row}
-use Rattle.frame.specs.Modes.{known, row}
+use Rattle.frame.specs.Modes.{known, row, extentFits}
 use Rattle.frame.specs.Headers.{headerRead, carries, headerOf}
 use Rattle.frame.specs.Lane.{blockWidth, laneOctets}
 use Rattle.frame.specs.SyncWord.{held}
@@ -28,10 +28,9 @@ use Rattle.sender.proofs.Runs.{lane-length}
 use Rattle.sender.proofs.Multiblocks.{before, number-before, value-sent}
 use Rattle.lock.specs.declared.Lock.{Lock}
 use Rattle.lock.specs.Run.{stateAfter}
-use Rattle.lock.specs.Stream.{Crc12Headers, Held}
+use Rattle.lock.specs.Stream.{Crc12Headers}
 use Rattle.lock.proofs.Words.{words-fit}
 use Rattle.lock.proofs.Runs.{state-same}
-use Rattle.lock.proofs.Bound.{locked-in-time}
 use Rattle.demands.specs.Calls.{Sending, userOctets, AllSent, laneSent}
 use Rattle.demands.specs.Promises.{headersFrom}
 use Rattle.demands.proofs.Sent.{one-lane, allCommands}
@@ -84,15 +83,18 @@ module _ (mode E : ℕ) (is-known : known mode ≡ true) (crc : row mode .sync �
       ∙ ap (λ (S : Sync). headerOf (held (state m .parity) (getD commands m 0) (bitOf (last E (state m))) (fieldAt S t))) crc
       ∙ rw (counted, position, there, ← number-before R E s user commands given (fits .number) m (omega arith)) refl
 
-  pub held-in-time : (n : ℕ) → p + n ≤ 32 * length commands → 95 + 128 * E ≤ n → Held (stateAfter mode E (headersFrom (R .gap) (lane R E s user commands) p) n)
-  held-in-time n inside h =
-      subst (λ (x : Lock). Held x) (sym (state-same mode E (headersFrom (R .gap) (lane R E s user commands) p) (λ x. headerOf (sync x)) n (λ x l. own x (omega arith))))
-      (locked-in-time mode E start (λ x. headerOf (sync x)) is-known (extent-fits E some few) undamaged n h)
+  along : (P : ℕ → Lock → Type 0) → ((q : ℕ) (headers : ℕ → ℕ) → extentFits E ≡ true → Crc12Headers E q headers → (n : ℕ) → P n (stateAfter mode E headers n))
+      → (n : ℕ) → p + n ≤ 32 * length commands → P n (stateAfter mode E (headersFrom (R .gap) (lane R E s user commands) p) n)
+  along P holds n inside =
+      subst (P n) (sym (state-same mode E (headersFrom (R .gap) (lane R E s user commands) p) (λ x. headerOf (sync x)) n (λ x l. own x (omega arith))))
+      (holds start (λ x. headerOf (sync x)) (extent-fits E some few) undamaged n)
 
-pub locks-in-time : (mode E : ℕ) → known mode ≡ true → row mode .sync ≡ Crc12 → (s : Sender) (calls : List Sending) → AllSent mode E s calls
-    → (p n : ℕ) → blockWidth (row mode .gap) * (p + n) ≤ 8 * length (laneSent mode E s calls) → 95 + 128 * E ≤ n
-    → Held (stateAfter mode E (headersFrom (row mode .gap) (laneSent mode E s calls) p) n)
-locks-in-time mode E is-known crc s calls h p n inside l =
+-- what holds of the locks after the blocks of every undamaged CRC-12 lane holds after those of the one that calls of our sender made
+pub along-lane : (mode E : ℕ) → known mode ≡ true → row mode .sync ≡ Crc12 → (s : Sender) (calls : List Sending) → AllSent mode E s calls
+    → (P : ℕ → Lock → Type 0) → ((q : ℕ) (headers : ℕ → ℕ) → extentFits E ≡ true → Crc12Headers E q headers → (n : ℕ) → P n (stateAfter mode E headers n))
+    → (p n : ℕ) → 1 ≤ n → blockWidth (row mode .gap) * (p + n) ≤ 8 * length (laneSent mode E s calls)
+    → P n (stateAfter mode E (headersFrom (row mode .gap) (laneSent mode E s calls) p) n)
+along-lane mode E is-known crc s calls h P holds p n more inside =
     let one = one-lane mode E s calls h in
     let user = userOctets calls in
     let commands = allCommands calls in
@@ -103,5 +105,5 @@ locks-in-time mode E is-known crc s calls h p n inside l =
     ap (λ (x : ℕ). 8 * x) long ∙ sym (mul-assoc 8 L (length commands)) ∙ ap (λ (x : ℕ). x * length commands) (octets-blocks (row mode .gap)) ∙ mul-assoc w 32 (length commands) in
     let within : p + n ≤ 32 * length commands = le-of-mul-le-mul-left (subst (λ (x : ℕ). w * (p + n) ≤ x) all inside) (width-some (row mode .gap)) in
     let ready = one .ready (omega arith) in
-    subst (λ (x : List ℕ). Held (stateAfter mode E (headersFrom (row mode .gap) x p) n)) (sym (one .made))
-    (held-in-time mode E is-known crc s user commands (omega (arith, one .given)) (ready .0) (ready .1) (ready .2) p n within l)
+    subst (λ (x : List ℕ). P n (stateAfter mode E (headersFrom (row mode .gap) x p) n)) (sym (one .made))
+    (along mode E is-known crc s user commands (omega (arith, one .given)) (ready .0) (ready .1) (ready .2) p P holds n within)

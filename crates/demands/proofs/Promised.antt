@@ -27,13 +27,18 @@ use Rattle.sender.proofs.Entry.{answered, fits}
 use Rattle.sender.proofs.Multiblocks.{fill-sent}
 use Rattle.receiver.proofs.Ignored.{gaps-ignored}
 use Rattle.judge.specs.Sound.{sound}
+use Rattle.lock.specs.declared.Lock.{Lock}
+use Rattle.lock.specs.Stream.{Held}
+use Rattle.lock.proofs.Runs.{state-none}
+use Rattle.lock.proofs.Bound.{locked-in-time, nothing-kept}
+use Rattle.lock.proofs.Kept.{goes-on, stays-apart, kept-followed}
 use Rattle.demands.specs.Calls.{userOctets, laneSent, laneHeard}
 use Rattle.demands.specs.Transfer.{Transfer, flips, DamagedBy, Untouched, releases, released, status, given, headerFlips}
-use Rattle.demands.specs.Promises.{Limits, FecDelivers, CrcTellsHits, CrcUntouchedSound, SoundTrue, FecSoundTrue, CrcSoundTrue, InvalidTold, InvalidByFlips, UntouchedValid, FillIgnored, FillByTable, NeverStill, BurstsByPairs, OneBurst, OneSet, LocksInTime, DozenRight}
+use Rattle.demands.specs.Promises.{Limits, FecDelivers, CrcTellsHits, CrcUntouchedSound, SoundTrue, FecSoundTrue, CrcSoundTrue, InvalidTold, InvalidByFlips, UntouchedValid, FillIgnored, FillByTable, NeverStill, BurstsByPairs, OneBurst, OneSet, LocksInTime, NothingKept, LocksGoOn, NeverMeet, KeptFollowed, headersFrom, DozenRight}
 use Rattle.demands.proofs.Places.{header-inside, header-from-start}
 use Rattle.demands.proofs.Sent.{allCommands, one-lane}
 use Rattle.demands.proofs.Pairs.{pairs, in-bursts}
-use Rattle.demands.proofs.Locks.{locks-in-time}
+use Rattle.demands.proofs.Locks.{along-lane}
 use Rattle.demands.proofs.Dozen.{all-right}
 use Rattle.demands.proofs.Delivered.{Lanes, Right, repairs-right, next-octet, hit-status, sound-octet, untouched-status}
 use Rattle.demands.proofs.Released.{before, after, count, sends-them, lanes, all-released, status-at, invalid-at, octet-released}
@@ -157,7 +162,24 @@ pub one-set-only : OneSet
 one-set-only = one-set
 
 pub in-time : LocksInTime
-in-time mode E is-known crc s calls sent p n inside h = locks-in-time mode E is-known crc s calls sent p n inside (omega arith)
+in-time mode E is-known crc s calls sent p n inside h =
+    along-lane mode E is-known crc s calls sent (λ (n : ℕ) (x : Lock). 95 + 128 * E ≤ n → Held x)
+    (λ q headers extent lane. locked-in-time mode E q headers is-known extent lane) p n (omega arith) inside (omega arith)
+
+pub none-kept : NothingKept
+none-kept mode E is-known crc s calls sent p zero inside = ap (λ (x : Lock). x .extended .kept) (state-none mode E (headersFrom (row mode .gap) (laneSent mode E s calls) p))
+none-kept mode E is-known crc s calls sent p (suc n) inside =
+    along-lane mode E is-known crc s calls sent (λ (n : ℕ) (x : Lock). x .extended .kept ≡ 0)
+    (λ q headers extent lane. nothing-kept mode E q headers is-known extent lane) p (suc n) (omega arith) inside
+
+pub locks-go-on : LocksGoOn
+locks-go-on mode E lock header next z = goes-on mode E lock header z next
+
+pub never-meet : NeverMeet
+never-meet mode E lock header z = stays-apart mode E lock header z
+
+pub kept-is-followed : KeptFollowed
+kept-is-followed mode E lock header z held f look some miss = kept-followed mode E lock header z f look some miss held
 
 pub dozen-right : DozenRight
 dozen-right = all-right

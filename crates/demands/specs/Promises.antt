@@ -12,11 +12,16 @@ use Rattle.frame.specs.declared.modes.Sync.the-variants.{Crc12}
 use Rattle.frame.specs.Modes.{code, repairs, rows, known, row}
 use Rattle.fill.specs.Register.{registerAfter, shifts, still}
 use Rattle.fill.specs.Table38.{fillBit}
+use Rattle.frame.specs.Headers.{headerRead}
 use Rattle.frame.specs.Lane.{blockWidth, laneOctets, dataPlace, fillPlace, inGap, valueAt, invalidHeaders}
 use Rattle.sender.specs.declared.Sender.{Sender}
 use Rattle.judge.specs.Sound.{sound}
 use Rattle.receiver.specs.declared.Receiver.{Receiver}
 use Rattle.receiver.specs.Entry as receiver
+use Rattle.lock.specs.declared.Phase.the-variants.{Following}
+use Rattle.lock.specs.declared.Lock.{Lock}
+use Rattle.lock.specs.ExtendedTable.{withHeader, matches, following}
+use Rattle.lock.specs.Refusals.{stepped}
 use Rattle.lock.specs.Run.{stateAfter}
 use Rattle.lock.specs.Stream.{Held}
 use Rattle.demands.specs.Damage.{InBursts, Pairwise}
@@ -148,6 +153,34 @@ LocksInTime =
     (mode E : ℕ) → known mode ≡ true → row mode .sync ≡ Crc12 → (s : Sender) (calls : List Sending) → AllSent mode E s calls
     → (p n : ℕ) → blockWidth (row mode .gap) * (p + n) ≤ 8 * length (laneSent mode E s calls) → 95 + 128 * E ≤ n
     → Held (stateAfter mode E (headersFrom (row mode .gap) (laneSent mode E s calls) p) n)
+
+-- request 4: on such a lane nothing is ever kept, since its end mark and the ending after it fit at no other phase
+abbrev pub NothingKept : Type 0
+NothingKept =
+    (mode E : ℕ) → known mode ≡ true → row mode .sync ≡ Crc12 → (s : Sender) (calls : List Sending) → AllSent mode E s calls
+    → (p n : ℕ) → blockWidth (row mode .gap) * (p + n) ≤ 8 * length (laneSent mode E s calls)
+    → stateAfter mode E (headersFrom (row mode .gap) (laneSent mode E s calls) p) n .extended .kept ≡ 0
+
+-- request 4: on any headers, a step that is taken returns a state that the next step takes
+abbrev pub LocksGoOn : Type 0
+LocksGoOn =
+    (mode E : ℕ) (lock : Lock) (header next : ℕ) → stepped mode E lock header .refusal ≡ 0 → next ≤ 3
+    → stepped mode E (stepped mode E lock header .lock) next .refusal ≡ 0
+
+-- in which the kept phase and the followed one have not met
+abbrev pub NeverMeet : Type 0
+NeverMeet =
+    (mode E : ℕ) (lock : Lock) (header : ℕ) → stepped mode E lock header .refusal ≡ 0
+    → let x = stepped mode E lock header .lock .extended in x .phase ≡ Following → x .kept ≡ x .next → ⊥
+
+-- and nothing kept is lost without cause: while header lock is held, a look without a match leads to the kept phase, with good count 1, and the
+-- count to its next look has run on
+abbrev pub KeptFollowed : Type 0
+KeptFollowed =
+    (mode E : ℕ) (lock : Lock) (header : ℕ) → stepped mode E lock header .refusal ≡ 0 → stepped mode E lock header .lock .header .locked ≡ true
+    → let x = lock .extended in let seen = withHeader x (headerRead header) in
+    x .phase ≡ Following → x .next ≡ 1 → (x .kept ≡ 0 → ⊥) → matches seen ≡ false
+    → stepped mode E lock header .lock .extended ≡ following seen 1 (x .kept - 1) 0
 
 -- ---- the dozen
 

@@ -1,7 +1,8 @@
 -- An undamaged CRC-12 lane, fed from fresh at its true offset from any block of it, holds both locks after at most 95 + 128E blocks and at
--- every block after: document 01, "Lock tables". Assumes nothing.
+-- every block after: document 01, "Lock tables". No match comes in between (`Ends`), so that nothing is ever kept: request 4. Assumes nothing.
 use mathlib.Core.Path.{_≡_, refl, sym, ap, _∙_, subst}
 use mathlib.Core.Bool.{Bool, true, false, not}
+use mathlib.Core.Logic.{⊎-elim}
 use Prim.Native.Nat.{ℕ, zero, suc, _+_, _-_, _*_, _%_, _≤_, _<_}
 use native.Mathlib.Nat.{add-suc, add-zero}
 use native.Mathlib.Numerals.{add-one, one-add}
@@ -25,7 +26,7 @@ use Rattle.lock.proofs.HeaderRows as rows
 use Rattle.lock.proofs.ExtendedRows.{hunts-on, with-hunting, step-by}
 use Rattle.lock.proofs.Matches.{too-few}
 use Rattle.lock.proofs.Runs.{state-none, state-next, state-taken}
-use Rattle.lock.proofs.Follow.{follows}
+use Rattle.lock.proofs.Follow.{lt-or-ge, keeps-nothing, follows}
 use Rattle.lock.proofs.Window.{Seen, seen-none, seen-more, seen-step}
 use Rattle.lock.proofs.Ends.{matches-at-ends}
 
@@ -142,11 +143,27 @@ module _ (mode E p : ℕ) (headers : ℕ → ℕ) (of-mode : known mode ≡ true
       stepping-by k _ (matches-at-ends E (64 + p) sync (later E p 64 (λ n. carries (headerRead (headers n))) (lane .sync)) some k (withHeader (x k) (read (64 + k))) h
       (subst (λ (n : ℕ). Seen sync n (withHeader (x k) (read (64 + k)))) (sym (one-add k)) (seen-with k)))
 
+  -- the last block before one can match
+  quiet : (y : ExtendedLock) × (x 31 ≡ hunting y)
+  quiet = still 31 (omega arith)
+
+  -- nothing is ever kept
+  pub nothing-kept : (n : ℕ) → stateAfter mode E headers n .extended .kept ≡ 0
+  unfolding r x
+  nothing-kept n =
+      ⊎-elim (λ (a : n < 64). ap (λ (y : Lock). y .extended .kept) (counting n (omega arith)))
+      (λ (a : 64 ≤ n).
+      let z : 64 + (n - 64) ≡ n = omega arith in
+      ap (λ (k : ℕ). stateAfter mode E headers k .extended .kept) (sym z)
+      ∙ ⊎-elim (λ (b : n - 64 < 31). ap (λ (y : ExtendedLock). y .kept) (still (n - 64) (omega arith) .1))
+      (λ (b : 31 ≤ n - 64). keeps-nothing (32 * E) (64 + p) 31 (omega (arith, some)) (λ k. read (64 + k)) x (quiet .0) (quiet .1) fed (n - 64) b)
+      (lt-or-ge (n - 64) 31))
+      (lt-or-ge n 64)
+
   -- both locks are held after 95 + 128E blocks, and at every block after
   pub locked-in-time : (n : ℕ) → 95 + 128 * E ≤ n → Held (stateAfter mode E headers n)
   unfolding r x
   locked-in-time n h =
       let z : 64 + (n - 64) ≡ n = omega arith in
-      let s = still 31 (omega arith) in
       subst (λ (k : ℕ). Held (stateAfter mode E headers k)) z
-      (record { header = on (n - 64); extended = follows (32 * E) (64 + p) 31 (omega (arith, some)) (λ k. read (64 + k)) x (s .0) (s .1) fed (n - 64) (omega arith) })
+      (record { header = on (n - 64); extended = follows (32 * E) (64 + p) 31 (omega (arith, some)) (λ k. read (64 + k)) x (quiet .0) (quiet .1) fed (n - 64) (omega arith) })

@@ -30,9 +30,9 @@ module _ (x : ExtendedLock) (header : Header) where
   unfolding withHeader
   with-hunting = refl
 
-  pub with-following : (good next : ℕ) → withHeader (following x good next) header ≡ following (withHeader x header) good next
+  pub with-following : (good next kept : ℕ) → withHeader (following x good next kept) header ≡ following (withHeader x header) good next kept
   unfolding withHeader
-  with-following good next = refl
+  with-following good next kept = refl
 
   pub with-locked : (bad next : ℕ) → withHeader (locked x bad next) header ≡ locked (withHeader x header) bad next
   unfolding withHeader
@@ -45,19 +45,20 @@ module _ (period : ℕ) (x : ExtendedLock) where
   unfolding moved
   hunts-on = refl
 
-  pub finds : moved period (hunting x) true ≡ following x 1 period
+  pub finds : moved period (hunting x) true ≡ following x 1 period 0
   unfolding moved
   finds = refl
 
-  pub waits : (good next : ℕ) → 1 < next → moved period (following x good next) false ≡ following x good (next - 1)
+  -- where nothing is kept
+  pub waits : (good next : ℕ) → 1 < next → moved period (following x good next 0) false ≡ following x good (next - 1) 0
   unfolding moved
   waits good next h = simp (ne-eqb next 1 (λ z. omega arith))
 
-  pub confirms : (good next : ℕ) → next ≡ 1 → good < 3 → moved period (following x good next) true ≡ following x (good + 1) period
+  pub confirms : (good next : ℕ) → next ≡ 1 → good < 3 → moved period (following x good next 0) true ≡ following x (good + 1) period 0
   unfolding moved
   confirms good next h k = simp (eq-eqb next 1 h, ne-eqb (good + 1) 4 (λ z. omega arith))
 
-  pub locks : (next : ℕ) → next ≡ 1 → moved period (following x 3 next) true ≡ locked x 0 period
+  pub locks : (next : ℕ) → next ≡ 1 → moved period (following x 3 next 0) true ≡ locked x 0 period
   unfolding moved
   locks next h = simp (eq-eqb next 1 h)
 
@@ -85,7 +86,7 @@ module _ (period : ℕ) (x : ExtendedLock) where
   same-row Hunting look false = same _ refl refl
   same-row Following false match = same _ refl refl
   same-row Following true true = pick-both (SameHeaders x) (eqb (x .good + 1) 4) _ _ (λ e. same _ refl refl) (λ e. same _ refl refl)
-  same-row Following true false = same _ refl refl
+  same-row Following true false = pick-both (SameHeaders x) (eqb (x .kept) 0) _ _ (λ e. same _ refl refl) (λ e. same _ refl refl)
   same-row Locked false match = same _ refl refl
   same-row Locked true true = same _ refl refl
   same-row Locked true false = pick-both (SameHeaders x) (eqb (x .bad + 1) 8) _ _ (λ e. same _ refl refl) (λ e. same _ refl refl)

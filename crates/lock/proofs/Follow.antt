@@ -1,5 +1,5 @@
--- The extended lock where exactly the blocks match that end an extended multiblock: it is locked after at most four of them, and stays so.
--- Assumes nothing.
+-- The extended lock where exactly the blocks match that end an extended multiblock: it is locked after at most four of them, and stays so, and
+-- keeps nothing on the way. Assumes nothing.
 use mathlib.Core.Path.{_≡_, sym, ap, ap₂, _∙_, subst₃}
 use mathlib.Core.Bool.{true, false}
 use mathlib.Core.Logic.{_⊎_, inl, inr, ⊎-elim}
@@ -35,9 +35,9 @@ turn period m h =
 
 data Track (period c t : ℕ) (x : ExtendedLock) : Type 0 where
   hunts : (y : ExtendedLock) → x ≡ hunting y → t + c ≡ 4 * period → Track period c t x
-  first : (y : ExtendedLock) (next : ℕ) → x ≡ following y 1 next → c + next ≡ period → t ≡ next + 2 * period → Track period c t x
-  second : (y : ExtendedLock) (next : ℕ) → x ≡ following y 2 next → c + next ≡ period → t ≡ next + period → Track period c t x
-  third : (y : ExtendedLock) (next : ℕ) → x ≡ following y 3 next → c + next ≡ period → t ≡ next → Track period c t x
+  first : (y : ExtendedLock) (next : ℕ) → x ≡ following y 1 next 0 → c + next ≡ period → t ≡ next + 2 * period → Track period c t x
+  second : (y : ExtendedLock) (next : ℕ) → x ≡ following y 2 next 0 → c + next ≡ period → t ≡ next + period → Track period c t x
+  third : (y : ExtendedLock) (next : ℕ) → x ≡ following y 3 next 0 → c + next ≡ period → t ≡ next → Track period c t x
   held : (y : ExtendedLock) (next : ℕ) → x ≡ locked y 0 next → c + next ≡ period → t ≡ 0 → Track period c t x
 
 -- what block c does to a lock x, with its header v: it is no end of an extended multiblock, or it is one
@@ -51,12 +51,12 @@ module _ (period c : ℕ) (v : Header) {x y z w : ExtendedLock} (q : x ≡ y) (e
 step : {period c d t : ℕ} {x : ExtendedLock} (v : Header) → Turn period c d → Track period c t x → Track period d (t - 1) (moved period (withHeader x v) (eqb c (period - 1)))
 step {period} {c} v (inside h e) (hunts y q w) = let n = withHeader y v in hunts n (miss period c v q (with-hunting y v) h (hunts-on period n)) (omega arith)
 step {period} {c} v (around h e) (hunts y q w) = let n = withHeader y v in first n period (hit period c v q (with-hunting y v) h (finds period n)) (omega arith) (omega arith)
-step {period} {c} v (inside h e) (first y l q w u) = let n = withHeader y v in first n (l - 1) (miss period c v q (with-following y v 1 l) h (waits period n 1 l (omega arith))) (omega arith) (omega arith)
-step {period} {c} v (around h e) (first y l q w u) = let n = withHeader y v in second n period (hit period c v q (with-following y v 1 l) h (confirms period n 1 l (omega arith) (omega arith))) (omega arith) (omega arith)
-step {period} {c} v (inside h e) (second y l q w u) = let n = withHeader y v in second n (l - 1) (miss period c v q (with-following y v 2 l) h (waits period n 2 l (omega arith))) (omega arith) (omega arith)
-step {period} {c} v (around h e) (second y l q w u) = let n = withHeader y v in third n period (hit period c v q (with-following y v 2 l) h (confirms period n 2 l (omega arith) (omega arith))) (omega arith) (omega arith)
-step {period} {c} v (inside h e) (third y l q w u) = let n = withHeader y v in third n (l - 1) (miss period c v q (with-following y v 3 l) h (waits period n 3 l (omega arith))) (omega arith) (omega arith)
-step {period} {c} v (around h e) (third y l q w u) = let n = withHeader y v in held n period (hit period c v q (with-following y v 3 l) h (locks period n l (omega arith))) (omega arith) (omega arith)
+step {period} {c} v (inside h e) (first y l q w u) = let n = withHeader y v in first n (l - 1) (miss period c v q (with-following y v 1 l 0) h (waits period n 1 l (omega arith))) (omega arith) (omega arith)
+step {period} {c} v (around h e) (first y l q w u) = let n = withHeader y v in second n period (hit period c v q (with-following y v 1 l 0) h (confirms period n 1 l (omega arith) (omega arith))) (omega arith) (omega arith)
+step {period} {c} v (inside h e) (second y l q w u) = let n = withHeader y v in second n (l - 1) (miss period c v q (with-following y v 2 l 0) h (waits period n 2 l (omega arith))) (omega arith) (omega arith)
+step {period} {c} v (around h e) (second y l q w u) = let n = withHeader y v in third n period (hit period c v q (with-following y v 2 l 0) h (confirms period n 2 l (omega arith) (omega arith))) (omega arith) (omega arith)
+step {period} {c} v (inside h e) (third y l q w u) = let n = withHeader y v in third n (l - 1) (miss period c v q (with-following y v 3 l 0) h (waits period n 3 l (omega arith))) (omega arith) (omega arith)
+step {period} {c} v (around h e) (third y l q w u) = let n = withHeader y v in held n period (hit period c v q (with-following y v 3 l 0) h (locks period n l (omega arith))) (omega arith) (omega arith)
 step {period} {c} v (inside h e) (held y l q w u) = let n = withHeader y v in held n (l - 1) (miss period c v q (with-locked y v 0 l) h (holds-on period n l (omega arith))) (omega arith) (omega arith)
 step {period} {c} v (around h e) (held y l q w u) = let n = withHeader y v in held n period (hit period c v q (with-locked y v 0 l) h (holds-again period n l (omega arith))) (omega arith) (omega arith)
 
@@ -66,6 +66,13 @@ done h z (first y l q w u) = absurd (omega arith)
 done h z (second y l q w u) = absurd (omega arith)
 done h z (third y l q w u) = absurd (omega arith)
 done h z (held y l q w u) = ap (λ (y : ExtendedLock). y .phase) q
+
+spare : {period c t : ℕ} {x : ExtendedLock} → Track period c t x → x .kept ≡ 0
+spare (hunts y q w) = ap (λ (z : ExtendedLock). z .kept) q
+spare (first y l q w u) = ap (λ (z : ExtendedLock). z .kept) q
+spare (second y l q w u) = ap (λ (z : ExtendedLock). z .kept) q
+spare (third y l q w u) = ap (λ (z : ExtendedLock). z .kept) q
+spare (held y l q w u) = ap (λ (z : ExtendedLock). z .kept) q
 
 -- a lock x that hunts, fed from block N on with headers v
 module _ (period q N : ℕ) (pos : 0 < period) (v : ℕ → Header) (x : ℕ → ExtendedLock) (y : ExtendedLock) (start : x N ≡ hunting y)
@@ -83,6 +90,11 @@ module _ (period q N : ℕ) (pos : 0 < period) (v : ℕ → Header) (x : ℕ →
       let a : suc (N + j + q) ≡ N + suc j + q = omega arith in
       let b : 4 * period - (N + q) % period - j - 1 ≡ 4 * period - (N + q) % period - suc j = omega arith in
       subst₃ (λ (m t n : ℕ). Track period (m % period) t (x n)) a b (sym z) r
+
+  pub keeps-nothing : (n : ℕ) → N ≤ n → x n .kept ≡ 0
+  keeps-nothing n h =
+      let z : N + (n - N) ≡ n = omega arith in
+      ap (λ (m : ℕ). x m .kept) (sym z) ∙ spare (track (n - N))
 
   -- it is held after at most four periods, and from there on
   pub follows : (n : ℕ) → N + 4 * period ≤ n → x n .phase ≡ Locked

@@ -1,6 +1,7 @@
 -- Laws of the two locks: the bound first, then what it rests on.
 pub mod Bound
 pub mod Words
+pub mod Kept
 pub mod Runs
 pub mod Accepted
 pub mod HeaderRange

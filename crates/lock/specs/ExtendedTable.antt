@@ -1,5 +1,5 @@
--- The step table of extended lock: clause 7.6.2; document 01, "Lock tables", whose lines stand above the rows. From one look to the next are
--- `period` blocks: 32E. Assumes nothing.
+-- The step table of extended lock: clause 7.6.2; document 01, "Lock tables", and request 4, whose lines stand above the rows. From one look to
+-- the next are `period` blocks: 32E. Assumes nothing.
 use mathlib.Core.Bool.{Bool, true, false, _&&_}
 use Prim.Native.Nat.{ℕ, _+_, _-_, _*_, _%_, _^_}
 use lib.Dec.{ltb, leb, eqb}
@@ -22,6 +22,7 @@ withHeader x header = record {
   good = x .good;
   bad = x .bad;
   next = x .next;
+  kept = x .kept;
 }
 
 -- a match: at least 32 headers seen, and in the last 32 the end mark (position 22) is 1 and positions 27 to 31 are 00001
@@ -31,29 +32,35 @@ matches x = leb 32 (x .seen) && eqb (digit 32 (x .headers) 22) 1 && eqb (x .head
 -- ---- extended lock
 
 -- the same headers, with a phase and what it counts
-abbrev pub counted : ExtendedLock → Phase → ℕ → ℕ → ℕ → ExtendedLock
-counted x phase good bad next = record { phase = phase; seen = x .seen; headers = x .headers; good = good; bad = bad; next = next }
+abbrev pub counted : ExtendedLock → Phase → ℕ → ℕ → ℕ → ℕ → ExtendedLock
+counted x phase good bad next kept = record { phase = phase; seen = x .seen; headers = x .headers; good = good; bad = bad; next = next; kept = kept }
 
 abbrev pub hunting : ExtendedLock → ExtendedLock
-hunting x = counted x Hunting 0 0 0
+hunting x = counted x Hunting 0 0 0 0
 
-abbrev pub following : ExtendedLock → ℕ → ℕ → ExtendedLock
-following x good next = counted x Following good 0 next
+abbrev pub following : ExtendedLock → ℕ → ℕ → ℕ → ExtendedLock
+following x good next kept = counted x Following good 0 next kept
 
 abbrev pub locked : ExtendedLock → ℕ → ℕ → ExtendedLock
-locked x bad next = counted x Locked 0 bad next
+locked x bad next = counted x Locked 0 bad next 0
+
+-- request 4: each header takes one off the kept phase's count; one that reaches 0 starts again at 32E. With nothing kept it is 0, and stays so
+abbrev pub ranOn : ℕ → ℕ → ℕ
+ranOn period kept = pick (eqb kept 1) period (kept - 1)
 
 -- by: the phase, is this a block to look at, does it match
 abbrev pub extendedRow : Phase → Bool → Bool → ℕ → ExtendedLock → ExtendedLock
 -- while hunting, a match makes it following, good count 1
-extendedRow Hunting look true period x = following x 1 period
+extendedRow Hunting look true period x = following x 1 period 0
 extendedRow Hunting look false period x = hunting x
--- following and locked look only at every 32E-th block from there; matches seen in between are ignored
-extendedRow Following false match period x = following x (x .good) (x .next - 1)
+-- following and locked look only at every 32E-th block from there; while locked, matches seen in between are ignored
 extendedRow Locked false match period x = locked x (x .bad) (x .next - 1)
--- following: match adds 1, locked at 4; no match, hunting
-extendedRow Following true true period x = pick (eqb (x .good + 1) 4) (locked x 0 period) (following x (x .good + 1) period)
-extendedRow Following true false period x = hunting x
+-- request 4: a match where the followed one isn't looked at, with nothing kept, is kept, 32E blocks to its next look; the earliest stays
+extendedRow Following false match period x = following x (x .good) (x .next - 1) (pick (match && eqb (x .kept) 0) period (ranOn period (x .kept)))
+-- following: match adds 1, locked at 4; request 4: the kept one stays, until locking drops it
+extendedRow Following true true period x = pick (eqb (x .good + 1) 4) (locked x 0 period) (following x (x .good + 1) period (ranOn period (x .kept)))
+-- no match: if one is kept, it is followed at once with good count 1, and nothing is kept; if none, hunting
+extendedRow Following true false period x = pick (eqb (x .kept) 0) (hunting x) (following x 1 (ranOn period (x .kept)) 0)
 -- locked: match sets bad 0; no match adds 1, hunting at 8
 extendedRow Locked true true period x = locked x 0 period
 extendedRow Locked true false period x = pick (eqb (x .bad + 1) 8) (hunting x) (locked x (x .bad + 1) period)
@@ -68,4 +75,4 @@ extendedStep period x header = moved period (withHeader x header) (matches (with
 
 -- hunting, and nothing seen
 abbrev pub freshExtended : ExtendedLock
-freshExtended = record { phase = Hunting; seen = 0; headers = 0; good = 0; bad = 0; next = 0 }
+freshExtended = record { phase = Hunting; seen = 0; headers = 0; good = 0; bad = 0; next = 0; kept = 0 }

@@ -1,6 +1,6 @@
--- Which states are accepted: document 01, "Numbers of refusal", line 3. A state that no run reaches, but that breaks no line of the table, is
--- accepted. A block is `width` bits wide, and from one look to the next are `period` blocks. Assumes nothing.
-use mathlib.Core.Bool.{Bool, true, false, _&&_, _||_}
+-- Which states are accepted: document 01, "Numbers of refusal", line 3; of the kept phase request 4. A state that no run reaches, but that breaks
+-- no line of the table, is accepted. A block is `width` bits wide, and from one look to the next are `period` blocks. Assumes nothing.
+use mathlib.Core.Bool.{Bool, true, false, not, _&&_, _||_}
 use Prim.Native.Nat.{ℕ, _/_, _^_}
 use lib.Dec.{ltb, leb, eqb}
 use Rattle.lock.specs.declared.HeaderLock.{HeaderLock}
@@ -25,15 +25,20 @@ headersInRange x = leb (x .seen) 32 && eqb (x .headers / 2 ^ x .seen) 0
 abbrev pub nextInRange : ℕ → ℕ → Bool
 nextInRange period next = leb 1 next && leb next period
 
+-- not: the kept phase's above 32E, or equal to the followed one's. That is 1 or more, so that 0, for none, is in range
+abbrev pub keptInRange : ℕ → ℕ → ℕ → Bool
+keptInRange period next kept = leb kept period && not (eqb kept next)
+
 -- good 1 to 3 while following, bad at most 7 while locked; a field that the phase doesn't use is 0
-abbrev pub phaseInRange : Phase → ℕ → ℕ → ℕ → ℕ → Bool
-phaseInRange Hunting period good bad next = eqb good 0 && eqb bad 0 && eqb next 0
-phaseInRange Following period good bad next = leb 1 good && leb good 3 && eqb bad 0 && nextInRange period next
-phaseInRange Locked period good bad next = eqb good 0 && leb bad 7 && nextInRange period next
+abbrev pub phaseInRange : Phase → ℕ → ExtendedLock → Bool
+phaseInRange Hunting period x = eqb (x .good) 0 && eqb (x .bad) 0 && eqb (x .next) 0 && eqb (x .kept) 0
+phaseInRange Following period x =
+    leb 1 (x .good) && leb (x .good) 3 && eqb (x .bad) 0 && nextInRange period (x .next) && keptInRange period (x .next) (x .kept)
+phaseInRange Locked period x = eqb (x .good) 0 && leb (x .bad) 7 && nextInRange period (x .next) && eqb (x .kept) 0
 
 -- all of the extended lock's fields
 unfoldable pub extendedInRange : ℕ → ExtendedLock → Bool
-extendedInRange period x = headersInRange x && phaseInRange (x .phase) period (x .good) (x .bad) (x .next)
+extendedInRange period x = headersInRange x && phaseInRange (x .phase) period x
 
 -- is this phase hunting
 abbrev pub isHunting : Phase → Bool

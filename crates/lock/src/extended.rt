@@ -1,8 +1,8 @@
 // One header for extended lock: clause 7.6.2; document 01, "Lock tables".
 ghost use mathlib.Core.Path.{_≡_};
-ghost use mathlib.Core.Bool.{true};
+ghost use mathlib.Core.Bool.{true, false};
 ghost use lib.Dec.{eqb};
-ghost use Rattle.lock.specs.ExtendedTable.{counted, extendedRow, moved, extendedStep};
+ghost use Rattle.lock.specs.ExtendedTable.{counted, ranOn, extendedRow, moved, extendedStep};
 ghost use Rattle.lock.specs.Ranges.{phaseInRange, extendedInRange};
 ghost use Rattle.lock.specs.declared.Phase.the-variants.{Hunting, Following, Locked};
 use crate::ExtendedLock;
@@ -11,8 +11,16 @@ use crate::latest::is_match;
 use crate::latest::with_header;
 use frame::headers::Header;
 
-fn counted(lock: ExtendedLock, phase: Phase, good: u32, bad: u32, next: u32) -> ExtendedLock
-    ensures { λ r. ⌜ r ≡ counted lock phase good bad next ⌝ }
+// The same headers, with a phase and what it counts.
+fn counted(
+    lock: ExtendedLock,
+    phase: Phase,
+    good: u32,
+    bad: u32,
+    next: u32,
+    kept: u32,
+) -> ExtendedLock
+    ensures { λ r. ⌜ r ≡ counted lock phase good bad next kept ⌝ }
 {
     ExtendedLock {
         phase,
@@ -21,54 +29,93 @@ fn counted(lock: ExtendedLock, phase: Phase, good: u32, bad: u32, next: u32) -> 
         good,
         bad,
         next,
+        kept,
     }
+}
+
+// The kept phase's count, a header later.
+fn ran_on(period: u32, kept: u32) -> u32
+    ensures { λ r. ⌜ r ≡ ranOn period kept ⌝ }
+{
+    if kept == 0 {
+        return 0;
+    }
+    if kept == 1 {
+        return period;
+    }
+    kept - 1
 }
 
 fn hunting_next(period: u32, lock: ExtendedLock, matched: bool) -> ExtendedLock
     ensures { λ r. ⌜ r ≡ extendedRow Hunting (eqb (lock .next) 1) matched period lock ⌝ }
 {
     if matched {
-        return counted(lock, Phase::Following, 1, 0, period);
+        return counted(lock, Phase::Following, 1, 0, period, 0);
     }
-    counted(lock, Phase::Hunting, 0, 0, 0)
+    counted(lock, Phase::Hunting, 0, 0, 0, 0)
 }
 
-fn following_next(period: u32, lock: ExtendedLock, look: bool, matched: bool) -> ExtendedLock
-    requires { ⌜ phaseInRange Following period (lock .good) (lock .bad) (lock .next) ≡ true ⌝ }
-    ensures { λ r. ⌜ r ≡ extendedRow Following look matched period lock ⌝ }
+// Following, at a block where the followed phase isn't looked at.
+fn between_looks(period: u32, lock: ExtendedLock, matched: bool) -> ExtendedLock
+    requires { ⌜ phaseInRange Following period lock ≡ true ⌝ }
+    ensures { λ r. ⌜ r ≡ extendedRow Following false matched period lock ⌝ }
 {
-    if !look {
-        return counted(lock, Phase::Following, lock.good, 0, lock.next - 1);
+    let next = lock.next - 1;
+    if matched & (lock.kept == 0) {
+        return counted(lock, Phase::Following, lock.good, 0, next, period);
     }
+    let kept = ran_on(period, lock.kept);
+    counted(lock, Phase::Following, lock.good, 0, next, kept)
+}
+
+// Following, at a look.
+fn looked_next(period: u32, lock: ExtendedLock, matched: bool) -> ExtendedLock
+    requires { ⌜ phaseInRange Following period lock ≡ true ⌝ }
+    ensures { λ r. ⌜ r ≡ extendedRow Following true matched period lock ⌝ }
+{
+    let kept = ran_on(period, lock.kept);
     if !matched {
-        return counted(lock, Phase::Hunting, 0, 0, 0);
+        if lock.kept == 0 {
+            return counted(lock, Phase::Hunting, 0, 0, 0, 0);
+        }
+        return counted(lock, Phase::Following, 1, 0, kept, 0);
     }
     let good = lock.good + 1;
     if good == 4 {
-        return counted(lock, Phase::Locked, 0, 0, period);
+        return counted(lock, Phase::Locked, 0, 0, period, 0);
     }
-    counted(lock, Phase::Following, good, 0, period)
+    counted(lock, Phase::Following, good, 0, period, kept)
+}
+
+fn following_next(period: u32, lock: ExtendedLock, look: bool, matched: bool) -> ExtendedLock
+    requires { ⌜ phaseInRange Following period lock ≡ true ⌝ }
+    ensures { λ r. ⌜ r ≡ extendedRow Following look matched period lock ⌝ }
+{
+    if look {
+        return looked_next(period, lock, matched);
+    }
+    between_looks(period, lock, matched)
 }
 
 fn locked_next(period: u32, lock: ExtendedLock, look: bool, matched: bool) -> ExtendedLock
-    requires { ⌜ phaseInRange Locked period (lock .good) (lock .bad) (lock .next) ≡ true ⌝ }
+    requires { ⌜ phaseInRange Locked period lock ≡ true ⌝ }
     ensures { λ r. ⌜ r ≡ extendedRow Locked look matched period lock ⌝ }
 {
     if !look {
-        return counted(lock, Phase::Locked, 0, lock.bad, lock.next - 1);
+        return counted(lock, Phase::Locked, 0, lock.bad, lock.next - 1, 0);
     }
     if matched {
-        return counted(lock, Phase::Locked, 0, 0, period);
+        return counted(lock, Phase::Locked, 0, 0, period, 0);
     }
     let bad = lock.bad + 1;
     if bad == 8 {
-        return counted(lock, Phase::Hunting, 0, 0, 0);
+        return counted(lock, Phase::Hunting, 0, 0, 0, 0);
     }
-    counted(lock, Phase::Locked, 0, bad, period)
+    counted(lock, Phase::Locked, 0, bad, period, 0)
 }
 
 fn moved(period: u32, lock: ExtendedLock, matched: bool) -> ExtendedLock
-    requires { ⌜ phaseInRange (lock .phase) period (lock .good) (lock .bad) (lock .next) ≡ true ⌝ }
+    requires { ⌜ phaseInRange (lock .phase) period lock ≡ true ⌝ }
     ensures { λ r. ⌜ r ≡ moved period lock matched ⌝ }
 {
     let look = lock.next == 1;

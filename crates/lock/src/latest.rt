@@ -31,6 +31,7 @@ pub(crate) fn with_header(lock: ExtendedLock, header: Header) -> ExtendedLock
         good: lock.good,
         bad: lock.bad,
         next: lock.next,
+        kept: lock.kept,
     }
 }
 

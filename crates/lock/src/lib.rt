@@ -34,7 +34,8 @@ pub enum Phase {
 }
 
 // The last 32 sync bits, the latest in bit 0, with how many were seen: a missing one is 0.
-// Good counts while following, bad while locked, and next is the number of blocks to the next look.
+// Good counts while following, bad while locked, and next is the number of blocks to the next look. Kept is the number of blocks to the
+// next look of the phase that was seen while another is followed, 0 for none.
 pub struct ExtendedLock {
     pub phase: Phase,
     pub seen: u32,
@@ -42,6 +43,7 @@ pub struct ExtendedLock {
     pub good: u32,
     pub bad: u32,
     pub next: u32,
+    pub kept: u32,
 }
 
 pub struct Lock {
@@ -65,6 +67,7 @@ impl ExtendedLock {
             good: 0,
             bad: 0,
             next: 0,
+            kept: 0,
         }
     }
 }

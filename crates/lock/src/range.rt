@@ -22,22 +22,27 @@ fn headers_in_range(lock: ExtendedLock) -> bool
     headers >> lock.seen == 0
 }
 
-fn phase_in_range(phase: Phase, period: u32, good: u32, bad: u32, next: u32) -> bool
-    ensures { λ r. ⌜ r ≡ phaseInRange phase period good bad next ⌝ }
+fn phase_in_range(period: u32, lock: ExtendedLock) -> bool
+    ensures { λ r. ⌜ r ≡ phaseInRange (lock .phase) period lock ⌝ }
 {
-    let next_fits = (1 <= next) & (next <= period);
+    let next_fits = (1 <= lock.next) & (lock.next <= period);
+    let kept_fits = (lock.kept <= period) & (lock.kept != lock.next);
+    let phase = lock.phase;
     match phase {
-        Phase::Hunting => (good == 0) & (bad == 0) & (next == 0),
-        Phase::Following => (1 <= good) & (good <= 3) & (bad == 0) & next_fits,
-        Phase::Locked => (good == 0) & (bad <= 7) & next_fits,
+        Phase::Hunting => (lock.good == 0) & (lock.bad == 0) & (lock.next == 0) & (lock.kept == 0),
+        Phase::Following => (1 <= lock.good)
+            & (lock.good <= 3)
+            & (lock.bad == 0)
+            & next_fits
+            & kept_fits,
+        Phase::Locked => (lock.good == 0) & (lock.bad <= 7) & next_fits & (lock.kept == 0),
     }
 }
 
 fn extended_in_range(period: u32, lock: ExtendedLock) -> bool
     ensures { λ r. ⌜ r ≡ extendedInRange period lock ⌝ }
 {
-    let phase = lock.phase;
-    headers_in_range(lock) & phase_in_range(phase, period, lock.good, lock.bad, lock.next)
+    headers_in_range(lock) & phase_in_range(period, lock)
 }
 
 fn is_hunting(phase: Phase) -> bool

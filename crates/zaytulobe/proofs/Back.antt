@@ -82,6 +82,7 @@ lock-numbers x h =
         good = x .extended .good;
         bad = x .extended .bad;
         next = x .extended .next;
+        kept = x .extended .kept;
       };
     })
     (bool-back (x .header .locked) (leb→le (x .header .locked) 1 (left (isBool (x .header .locked)) (leb (x .extended .phase) 2) h)))
@@ -99,6 +100,7 @@ lock-state l =
         good = l .extended .good;
         bad = l .extended .bad;
         next = l .extended .next;
+        kept = l .extended .kept;
       };
     })
     (bit-back (l .header .locked)) (number-back (l .extended .phase))

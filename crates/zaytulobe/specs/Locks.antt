@@ -34,6 +34,7 @@ stateOf x = record {
     good = x .extended .good;
     bad = x .extended .bad;
     next = x .extended .next;
+    kept = x .extended .kept;
   };
 }
 
@@ -47,5 +48,6 @@ asNumbers l = record {
     good = l .extended .good;
     bad = l .extended .bad;
     next = l .extended .next;
+    kept = l .extended .kept;
   };
 }

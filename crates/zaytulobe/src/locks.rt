@@ -25,6 +25,7 @@ pub struct ExtendedNumbers {
     pub good: u32,
     pub bad: u32,
     pub next: u32,
+    pub kept: u32,
 }
 
 // Both locks as numbers.
@@ -85,6 +86,7 @@ pub(crate) fn state_of(given: LockNumbers) -> Lock
         good: extended.good,
         bad: extended.bad,
         next: extended.next,
+        kept: extended.kept,
     };
     Lock { header, extended }
 }
@@ -110,6 +112,7 @@ pub(crate) fn as_numbers(lock: Lock) -> LockNumbers
         good: state.good,
         bad: state.bad,
         next: state.next,
+        kept: state.kept,
     };
     LockNumbers { header, extended }
 }

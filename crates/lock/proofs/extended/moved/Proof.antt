@@ -27,13 +27,13 @@ enum-told-2 : tie.Need-enum-told-2
 enum-told-2 c = search needs
 
 following-next-requires : tie.Need-following-next-requires
-following-next-requires c κs = let a = c .before .before .before .args in subst (λ (f : Phase). phaseInRange f (a .period) (a .lock .good) (a .lock .bad) (a .lock .next) ≡ true) (c .enum-told2 .given .1) (c .before .before .before .pre)
+following-next-requires c κs = let a = c .before .before .before .args in subst (λ (f : Phase). phaseInRange f (a .period) (a .lock) ≡ true) (c .enum-told2 .given .1) (c .before .before .before .pre)
 
 enum-told-3 : tie.Need-enum-told-3
 enum-told-3 c = search needs
 
 locked-next-requires : tie.Need-locked-next-requires
-locked-next-requires c κs = let a = c .before .before .before .args in subst (λ (f : Phase). phaseInRange f (a .period) (a .lock .good) (a .lock .bad) (a .lock .next) ≡ true) (c .enum-told3 .given .1) (c .before .before .before .pre)
+locked-next-requires c κs = let a = c .before .before .before .args in subst (λ (f : Phase). phaseInRange f (a .period) (a .lock) ≡ true) (c .enum-told3 .given .1) (c .before .before .before .pre)
 
 returns : tie.Need-returns
 returns c = let a = c .before .before .before .before .args in row (a .period) (a .lock) Hunting (a .matched) _ (c .before .enum-told .given .1) (c .hunting-next .ensures)
