@@ -2,7 +2,7 @@
 ghost use mathlib.Core.Path.{_≡_};
 ghost use mathlib.Core.Bool.{true, false};
 ghost use lib.Dec.{eqb};
-ghost use Rattle.lock.specs.ExtendedTable.{counted, ranOn, extendedRow, moved, extendedStep};
+ghost use Rattle.lock.specs.ExtendedTable.{counted, hunting, following, locked, ranOn, extendedRow, moved, extendedStep};
 ghost use Rattle.lock.specs.Ranges.{phaseInRange, extendedInRange};
 ghost use Rattle.lock.specs.declared.Phase.the-variants.{Hunting, Following, Locked};
 use crate::ExtendedLock;
@@ -33,6 +33,24 @@ fn counted(
     }
 }
 
+fn hunting(lock: ExtendedLock) -> ExtendedLock
+    ensures { λ r. ⌜ r ≡ hunting lock ⌝ }
+{
+    counted(lock, Phase::Hunting, 0, 0, 0, 0)
+}
+
+fn following(lock: ExtendedLock, good: u32, next: u32, kept: u32) -> ExtendedLock
+    ensures { λ r. ⌜ r ≡ following lock good next kept ⌝ }
+{
+    counted(lock, Phase::Following, good, 0, next, kept)
+}
+
+fn locked(lock: ExtendedLock, bad: u32, next: u32) -> ExtendedLock
+    ensures { λ r. ⌜ r ≡ locked lock bad next ⌝ }
+{
+    counted(lock, Phase::Locked, 0, bad, next, 0)
+}
+
 // The kept phase's count, a header later.
 fn ran_on(period: u32, kept: u32) -> u32
     ensures { λ r. ⌜ r ≡ ranOn period kept ⌝ }
@@ -50,9 +68,9 @@ fn hunting_next(period: u32, lock: ExtendedLock, matched: bool) -> ExtendedLock
     ensures { λ r. ⌜ r ≡ extendedRow Hunting (eqb (lock .next) 1) matched period lock ⌝ }
 {
     if matched {
-        return counted(lock, Phase::Following, 1, 0, period, 0);
+        return following(lock, 1, period, 0);
     }
-    counted(lock, Phase::Hunting, 0, 0, 0, 0)
+    hunting(lock)
 }
 
 // Following, at a block where the followed phase isn't looked at.
@@ -62,10 +80,10 @@ fn between_looks(period: u32, lock: ExtendedLock, matched: bool) -> ExtendedLock
 {
     let next = lock.next - 1;
     if matched & (lock.kept == 0) {
-        return counted(lock, Phase::Following, lock.good, 0, next, period);
+        return following(lock, lock.good, next, period);
     }
     let kept = ran_on(period, lock.kept);
-    counted(lock, Phase::Following, lock.good, 0, next, kept)
+    following(lock, lock.good, next, kept)
 }
 
 // Following, at a look.
@@ -76,15 +94,15 @@ fn looked_next(period: u32, lock: ExtendedLock, matched: bool) -> ExtendedLock
     let kept = ran_on(period, lock.kept);
     if !matched {
         if lock.kept == 0 {
-            return counted(lock, Phase::Hunting, 0, 0, 0, 0);
+            return hunting(lock);
         }
-        return counted(lock, Phase::Following, 1, 0, kept, 0);
+        return following(lock, 1, kept, 0);
     }
     let good = lock.good + 1;
     if good == 4 {
-        return counted(lock, Phase::Locked, 0, 0, period, 0);
+        return locked(lock, 0, period);
     }
-    counted(lock, Phase::Following, good, 0, period, kept)
+    following(lock, good, period, kept)
 }
 
 fn following_next(period: u32, lock: ExtendedLock, look: bool, matched: bool) -> ExtendedLock
@@ -102,16 +120,16 @@ fn locked_next(period: u32, lock: ExtendedLock, look: bool, matched: bool) -> Ex
     ensures { λ r. ⌜ r ≡ extendedRow Locked look matched period lock ⌝ }
 {
     if !look {
-        return counted(lock, Phase::Locked, 0, lock.bad, lock.next - 1, 0);
+        return locked(lock, lock.bad, lock.next - 1);
     }
     if matched {
-        return counted(lock, Phase::Locked, 0, 0, period, 0);
+        return locked(lock, 0, period);
     }
     let bad = lock.bad + 1;
     if bad == 8 {
-        return counted(lock, Phase::Hunting, 0, 0, 0, 0);
+        return hunting(lock);
     }
-    counted(lock, Phase::Locked, 0, bad, period, 0)
+    locked(lock, bad, period)
 }
 
 fn moved(period: u32, lock: ExtendedLock, matched: bool) -> ExtendedLock
