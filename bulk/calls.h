@@ -191,6 +191,14 @@ static u32 draw_next(u32 phase, u32 period) {
     return draw(2) == 0 ? 1 : 1 + (u32)draw(period);
 }
 
+static u32 draw_kept(u32 phase, u32 next, u32 period) {
+    if (phase != ZAYTULOBE_FOLLOWING || draw(2) == 0)
+        return 0;
+    if (draw(2) == 0)
+        return next == 1 ? 2 : 1;
+    return 1 + (next + (u32)draw(period - 1)) % period;
+}
+
 static struct zaytulobe_extended_lock draw_extended(u32 period) {
     static const u32 seen[8] = {0, 5, 31, 32, 32, 32, 32, 32};
     struct zaytulobe_extended_lock lock;
@@ -205,6 +213,10 @@ static struct zaytulobe_extended_lock draw_extended(u32 period) {
     lock.bad = or_more(bad, 8);
     u32 next = draw_next(lock.phase, period);
     lock.next = or_more(next, period);
+    u32 kept = draw_kept(lock.phase, lock.next, period);
+    kept = or_rather(kept, lock.next);
+    kept = or_more(kept, 1);
+    lock.kept = or_more(kept, period);
     return lock;
 }
 
@@ -229,7 +241,8 @@ static struct zaytulobe_lock draw_lock(u8 as, u32 e) {
 static void print_lock(struct zaytulobe_lock lock) {
     struct zaytulobe_header_lock h = lock.header;
     struct zaytulobe_extended_lock x = lock.extended;
-    printf(" %u %u %u %u %u %u %u %u %u %u\n", h.locked, h.offset, h.run, h.bad, x.phase, x.seen, x.headers, x.good, x.bad, x.next);
+    printf(" %u %u %u %u %u %u %u", h.locked, h.offset, h.run, h.bad, x.phase, x.seen, x.headers);
+    printf(" %u %u %u %u\n", x.good, x.bad, x.next, x.kept);
 }
 
 static void step_call(u64 seed) {

@@ -111,10 +111,26 @@ static u8 noisy(size noise, u8 header) {
     return replaced ? (u8)draw(4) : header;
 }
 
+/* A pilot that ends with that header (pilot.rs): the end mark nine before it, 0 in the four before it, and 1. */
+static void plant(size last) {
+    headers[last - 9] = 1;
+    memset(headers + last - 4, 2, 4);
+    headers[last] = 1;
+}
+
+/* False pilots of some phases, over so many headers. */
+static void draw_pilots(size steps, size extent) {
+    for (size phases = draw(4); phases > 0; phases--)
+        for (size last = 95 + draw(BLOCKS * extent); last < steps; last += BLOCKS * extent)
+            if (draw(4) != 0)
+                plant(last);
+}
+
 static size draw_header_values(size noise, size first, size extent) {
     size steps = 0;
     for (size bits = block_bits(drawn.mode), bit = bits * first; bit < 8 * drawn.lane_length; bit += bits)
         headers[steps++] = noisy(noise, lane[bit / 8] >> (6 - bit % 8) & 3);
+    draw_pilots(steps, extent);
     if (draw(5) != 0)
         return steps;
     for (size left = 384 * extent; left > 0; left--)
@@ -127,8 +143,8 @@ static size draw_header_values(size noise, size first, size extent) {
 static u64 with_lock(u64 digest, struct zaytulobe_lock lock) {
     struct zaytulobe_header_lock h = lock.header;
     struct zaytulobe_extended_lock x = lock.extended;
-    u32 numbers[10] = {h.locked, h.offset, h.run, h.bad, x.phase, x.seen, x.headers, x.good, x.bad, x.next};
-    for (int k = 0; k < 10; k++)
+    u32 numbers[11] = {h.locked, h.offset, h.run, h.bad, x.phase, x.seen, x.headers, x.good, x.bad, x.next, x.kept};
+    for (int k = 0; k < 11; k++)
         digest = with_number(digest, numbers[k]);
     return digest;
 }

@@ -151,7 +151,9 @@ struct zaytulobe_header_lock {
 };
 
 /* The phase; headers seen, at most 32; their bits, the latest in bit 0; matches while following; misses while locked; blocks to
-   the next look. */
+   the next look; while following, blocks to the next look of the kept phase, 1 to 32E and never those to the followed one's, and 0
+   if none is kept. What is kept is the earliest match at a block where the followed phase isn't looked at: when that one fails,
+   the kept one is followed instead. */
 struct zaytulobe_extended_lock {
     zaytulobe_u32 phase;
     zaytulobe_u32 seen;
@@ -159,6 +161,7 @@ struct zaytulobe_extended_lock {
     zaytulobe_u32 good;
     zaytulobe_u32 bad;
     zaytulobe_u32 next;
+    zaytulobe_u32 kept;
 };
 
 struct zaytulobe_lock {
@@ -279,21 +282,22 @@ ZAYTULOBE_FIELD(header_lock, offset, 4, 4);
 ZAYTULOBE_FIELD(header_lock, run, 8, 4);
 ZAYTULOBE_FIELD(header_lock, bad, 12, 4);
 
-ZAYTULOBE_STRUCT(extended_lock, 24);
+ZAYTULOBE_STRUCT(extended_lock, 28);
 ZAYTULOBE_FIELD(extended_lock, phase, 0, 4);
 ZAYTULOBE_FIELD(extended_lock, seen, 4, 4);
 ZAYTULOBE_FIELD(extended_lock, headers, 8, 4);
 ZAYTULOBE_FIELD(extended_lock, good, 12, 4);
 ZAYTULOBE_FIELD(extended_lock, bad, 16, 4);
 ZAYTULOBE_FIELD(extended_lock, next, 20, 4);
+ZAYTULOBE_FIELD(extended_lock, kept, 24, 4);
 
-ZAYTULOBE_STRUCT(lock, 40);
+ZAYTULOBE_STRUCT(lock, 44);
 ZAYTULOBE_FIELD(lock, header, 0, 16);
-ZAYTULOBE_FIELD(lock, extended, 16, 24);
+ZAYTULOBE_FIELD(lock, extended, 16, 28);
 
-ZAYTULOBE_STRUCT(stepped, 44);
+ZAYTULOBE_STRUCT(stepped, 48);
 ZAYTULOBE_FIELD(stepped, refusal, 0, 1);
-ZAYTULOBE_FIELD(stepped, lock, 4, 40);
+ZAYTULOBE_FIELD(stepped, lock, 4, 44);
 
 ZAYTULOBE_STRUCT(listed, 16);
 ZAYTULOBE_FIELD(listed, refusal, 0, 1);

@@ -168,12 +168,19 @@ static void run_header_lock(void) {
     try_lock("lock.header.bad", 15, 2, fits, next);
 }
 
-/* Extended lock under header lock, with E 2: next is at most 64. */
-static void try_extended(const char *field, u64 highest, struct zaytulobe_extended_lock fits, struct zaytulobe_extended_lock next) {
+/* Extended lock under header lock. */
+static void try_extended_with(
+    const char *field, u64 highest, u32 e, struct zaytulobe_extended_lock fits, struct zaytulobe_extended_lock next) {
     struct zaytulobe_lock fitting = {{.locked = 1}, fits}, exceeding = {{.locked = 1}, next};
-    try_lock(field, highest, 2, fitting, exceeding);
+    try_lock(field, highest, e, fitting, exceeding);
 }
 
+static void try_extended(const char *field, u64 highest, struct zaytulobe_extended_lock fits, struct zaytulobe_extended_lock next) {
+    try_extended_with(field, highest, 2, fits, next);
+}
+
+/* Both next and kept are at most 32E. With E 2 next is at most 64, and stands beside a kept 0, which next must not be; of kept the
+   highest is tried with E 3. */
 static void run_extended_lock(void) {
     struct zaytulobe_extended_lock hunts = {.seen = 31}, follows = {.phase = ZAYTULOBE_FOLLOWING, .seen = 32, .good = 1, .next = 1};
     struct zaytulobe_extended_lock holds = {.phase = ZAYTULOBE_LOCKED, .seen = 32, .next = 1}, fits = holds, next = holds;
@@ -189,6 +196,8 @@ static void run_extended_lock(void) {
     try_extended("lock.extended.bad", 7, fits, next);
     fits = next = holds, fits.next = 64, next.next = 65;
     try_extended("lock.extended.next, E 2", 64, fits, next);
+    fits = next = follows, fits.kept = 96, next.kept = 97;
+    try_extended_with("lock.extended.kept, E 3", 96, 3, fits, next);
 }
 
 static void run_answers(void) {

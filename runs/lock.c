@@ -273,7 +273,7 @@ static void try_extended(const char *label, u32 e, u32 locked, struct zaytulobe_
 }
 
 static void try_hunting(const char *label, u32 locked, u32 seen, u32 headers, u32 good, u32 bad, u32 next) {
-    struct zaytulobe_extended_lock extended = {HUNTING, seen, headers, good, bad, next};
+    struct zaytulobe_extended_lock extended = {HUNTING, seen, headers, good, bad, next, 0};
     try_extended(label, 1, locked, extended);
 }
 
@@ -291,12 +291,12 @@ static void run_hunting_states(void) {
 }
 
 static void try_looking(const char *label, u32 phase, u32 e, u32 good, u32 bad, u32 next) {
-    struct zaytulobe_extended_lock extended = {phase, 32, 0, good, bad, next};
+    struct zaytulobe_extended_lock extended = {phase, 32, 0, good, bad, next, 0};
     try_extended(label, e, 1, extended);
 }
 
 static void run_following_states(void) {
-    struct zaytulobe_extended_lock bare = {FOLLOWING, 0, 0, 1, 0, 1};
+    struct zaytulobe_extended_lock bare = {FOLLOWING, 0, 0, 1, 0, 1, 0};
     try_extended("header lock hunting, extended lock following", 1, 0, bare);
     try_extended("extended lock following, seen 0", 1, 1, bare);
     try_looking("extended lock following, good 0", FOLLOWING, 1, 0, 0, 1);
@@ -312,7 +312,7 @@ static void run_following_states(void) {
 }
 
 static void run_locked_states(void) {
-    struct zaytulobe_extended_lock bare = {LOCKED, 0, 0, 0, 0, 1};
+    struct zaytulobe_extended_lock bare = {LOCKED, 0, 0, 0, 0, 1, 0};
     try_extended("header lock hunting, extended lock locked", 1, 0, bare);
     try_looking("extended lock locked, good 1", LOCKED, 1, 1, 0, 1);
     try_looking("extended lock locked, bad 7", LOCKED, 1, 0, 7, 1);

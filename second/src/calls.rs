@@ -26,7 +26,9 @@
 //! 32][draw(8)], rarely 33; headers, two draws of 16 bits, the first highest; if draw(2) is 0, their last four bits become 0
 //! and bit 8 becomes 1; but rarely, only the lowest `seen` bits are kept; good = 1 + draw(3) if phase is 1, rarely 4 more;
 //! bad = draw(8) if phase is 2, rarely 8 more; next = 1 if phase is 1 or 2 and draw(2) is 0, or else 1 + draw(32 E); rarely
-//! 32 E more (of E 0 as of 1). With locked 0, if draw(4) isn't 0, all of extended lock becomes 0. The header is draw(4),
+//! 32 E more (of E 0 as of 1); kept = 0 if phase isn't 1 or draw(2) is 0, or else, if draw(2) is 0, 1, but 2 if next is 1,
+//! or else 1 + (next + draw(32 E - 1)) mod 32 E, which isn't next; then, one after another, rarely next instead, rarely 1
+//! more, rarely 32 E more. With locked 0, if draw(4) isn't 0, all of extended lock becomes 0. The header is draw(4),
 //! rarely 4 more.
 //!
 //! longest: draw(12) statuses, [0, 0, 0, 0, 1, 1, 1, 2, 3, 4, 5, 255][draw(12)] each; 256 octets for each, rarely 1 + draw(255)
@@ -280,7 +282,7 @@ fn receive(generator: &mut Generator) -> String {
 }
 
 /// The fields of both locks, in the order of `Lock::numbers`.
-type Numbers = [u32; 10];
+type Numbers = [u32; 11];
 
 fn draw_headers(generator: &mut Generator, seen: u32) -> u32 {
     let any = draw_number(generator, 1 << 16) << 16 | draw_number(generator, 1 << 16);
@@ -299,6 +301,17 @@ fn draw_next(generator: &mut Generator, phase: u32, period: u32) -> u32 {
         1
     } else {
         1 + draw_number(generator, period)
+    }
+}
+
+/// Mostly one that is accepted beside the next look, 0 for none.
+fn draw_kept(generator: &mut Generator, phase: u32, next: u32, period: u32) -> u32 {
+    if phase != 1 || generator.draw(2) == 0 {
+        0
+    } else if generator.draw(2) == 0 {
+        1 + u32::from(next == 1)
+    } else {
+        1 + (next + draw_number(generator, period - 1)) % period
     }
 }
 
@@ -321,19 +334,23 @@ fn draw_lock(generator: &mut Generator, mode: &Mode, e: u32) -> Numbers {
     let missed = or_more(generator, missed, 8);
     let next = draw_next(generator, phase, period);
     let next = or_more(generator, next, period);
+    let kept = draw_kept(generator, phase, next, period);
+    let kept = if generator.rarely() { next } else { kept };
+    let kept = or_more(generator, kept, 1);
+    let kept = or_more(generator, kept, period);
     if locked == 0 && generator.draw(4) != 0 {
-        return [locked, offset, run, bad, 0, 0, 0, 0, 0, 0];
+        return [locked, offset, run, bad, 0, 0, 0, 0, 0, 0, 0];
     }
-    [locked, offset, run, bad, phase, seen, headers, good, missed, next]
+    [locked, offset, run, bad, phase, seen, headers, good, missed, next, kept]
 }
 
 /// The locks that numbers stand for, if the flag and the phase are one.
 fn lock_of(numbers: Numbers) -> Option<Lock> {
-    let [locked, offset, run, bad, phase, seen, headers, good, missed, next] = numbers;
+    let [locked, offset, run, bad, phase, seen, headers, good, missed, next, kept] = numbers;
     let phase = *[Phase::Hunting, Phase::Following, Phase::Locked].get(phase as usize)?;
     let headers: [bool; BLOCKS] = bits::of_number(u64::from(headers), BLOCKS).try_into().ok()?;
     let header = HeaderLock { locked: locked == 1, offset, run, bad };
-    let extended = ExtendedLock { phase, seen, headers, good, bad: missed, next };
+    let extended = ExtendedLock { phase, seen, headers, good, bad: missed, next, kept };
     Some(Lock { header, extended }).filter(|_| locked < 2)
 }
 
@@ -425,5 +442,24 @@ mod tests {
         let count = |holds: fn(bool, u8) -> bool| refused.iter().map(given).filter(|(no, k)| holds(*no, *k)).count();
         assert!(count(|_, invalid| invalid == 33) > 2 && count(|_, invalid| invalid == 255) > 2);
         assert!(count(|nothing_waits, invalid| nothing_waits && (1..=32).contains(&invalid)) > 2);
+    }
+
+    /// A refused state comes back as it was given: PHASE is word 6 of the line, NEXT word 11, KEPT word 12. Of E nothing is
+    /// printed, so that of those above 32 E only the ones above that of 256 are counted.
+    #[test]
+    fn kept_phases_are_refused_from_their_edges_on() {
+        let lines: Vec<String> = (1..=6000).map(call).collect();
+        let count = |start: &str, holds: fn(u32, u32, u32) -> bool| {
+            let of_start = lines.iter().filter(|line| line.starts_with(start));
+            let numbers =
+                of_start.map(|line| line.split(' ').map(|word| word.parse().unwrap_or(0)).collect::<Vec<u32>>());
+            numbers.filter(|words| holds(words[6], words[11], words[12])).count()
+        };
+        assert!(count("step 3 ", |phase, next, kept| phase == 1 && next == kept) > 2);
+        assert!(count("step 3 ", |phase, _, kept| phase == 1 && kept > 32 * 256) > 0);
+        assert!(count("step 3 ", |phase, _, kept| phase == 0 && kept == 1) > 2);
+        assert!(count("step 3 ", |phase, _, kept| phase == 2 && kept > 0) > 2);
+        assert!(count("step 0 ", |phase, _, kept| phase == 1 && kept > 0) > 50);
+        assert!(count("step 0 ", |phase, next, kept| phase != 1 && kept > 0 || phase == 1 && next == kept) == 0);
     }
 }

@@ -1,5 +1,6 @@
 //! The two locks, one header a step (document 01, "Lock tables" and "Numbers of refusal", lines 1, 2, 3 and 9; clauses
-//! 7.6.1 and 7.6.2). The last 32 headers' bits are a list, the latest last, so that its places are those of a sync word.
+//! 7.6.1 and 7.6.2; of the kept phase document 02, request 4). The last 32 headers' bits are a list, the latest last, so
+//! that its places are those of a sync word.
 
 use crate::bits;
 use crate::header::Header;
@@ -12,7 +13,16 @@ const LOST_AFTER: u32 = 16;
 const EXTENDED_LOCKED_AFTER: u32 = 4;
 const EXTENDED_LOST_AFTER: u32 = 8;
 
+/// What becomes of a match between two looks while following.
 #[derive(Clone, Copy, Debug, PartialEq)]
+pub enum Between {
+    /// As document 01 has it: nothing. Then nothing is ever kept.
+    Ignored,
+    /// As request 4 has it: the earliest is kept.
+    Kept,
+}
+
+#[derive(Clone, Copy, Debug, PartialEq, Eq, Hash)]
 pub struct HeaderLock {
     pub locked: bool,
     pub offset: u32,
@@ -20,14 +30,14 @@ pub struct HeaderLock {
     pub bad: u32,
 }
 
-#[derive(Clone, Copy, Debug, PartialEq)]
+#[derive(Clone, Copy, Debug, PartialEq, Eq, Hash)]
 pub enum Phase {
     Hunting,
     Following,
     Locked,
 }
 
-#[derive(Clone, Copy, Debug, PartialEq)]
+#[derive(Clone, Copy, Debug, PartialEq, Eq, Hash)]
 pub struct ExtendedLock {
     pub phase: Phase,
     /// How many headers were seen, at most 32.
@@ -38,9 +48,11 @@ pub struct ExtendedLock {
     pub bad: u32,
     /// Blocks to the next look.
     pub next: u32,
+    /// Blocks to the kept phase's next look, 0 if none is kept.
+    pub kept: u32,
 }
 
-#[derive(Clone, Copy, Debug, PartialEq)]
+#[derive(Clone, Copy, Debug, PartialEq, Eq, Hash)]
 pub struct Lock {
     pub header: HeaderLock,
     pub extended: ExtendedLock,
@@ -84,20 +96,32 @@ impl HeaderLock {
 
 impl ExtendedLock {
     fn fresh() -> ExtendedLock {
-        ExtendedLock { phase: Phase::Hunting, seen: 0, headers: [false; BLOCKS], good: 0, bad: 0, next: 0 }
+        ExtendedLock { phase: Phase::Hunting, seen: 0, headers: [false; BLOCKS], good: 0, bad: 0, next: 0, kept: 0 }
+    }
+
+    /// At most 32 headers were seen, and a missing one is 0.
+    fn headers_are_in_range(&self) -> bool {
+        let missing = BLOCKS - (self.seen as usize).min(BLOCKS);
+        self.seen as usize <= BLOCKS && self.headers[..missing].iter().all(|bit| !bit)
+    }
+
+    /// Of the blocks to the looks while following: those to the kept phase's are not those to the followed one's.
+    fn looks_are_in_range(&self, e: u32) -> bool {
+        (1..=32 * e).contains(&self.next) && self.kept <= 32 * e && self.kept != self.next
     }
 
     fn is_in_range(&self, e: u32) -> bool {
         let look = 1..=32 * e;
-        let missing = BLOCKS - (self.seen as usize).min(BLOCKS);
-        let kept = self.seen as usize <= BLOCKS && self.headers[..missing].iter().all(|bit| !bit);
-        kept && match self.phase {
-            Phase::Hunting => (self.good, self.bad, self.next) == (0, 0, 0),
+        let fields = match self.phase {
+            Phase::Hunting => (self.good, self.bad, self.next, self.kept) == (0, 0, 0, 0),
             Phase::Following => {
-                (1..EXTENDED_LOCKED_AFTER).contains(&self.good) && self.bad == 0 && look.contains(&self.next)
+                (1..EXTENDED_LOCKED_AFTER).contains(&self.good) && self.bad == 0 && self.looks_are_in_range(e)
             }
-            Phase::Locked => self.good == 0 && self.bad < EXTENDED_LOST_AFTER && look.contains(&self.next),
-        }
+            Phase::Locked => {
+                (self.good, self.kept) == (0, 0) && self.bad < EXTENDED_LOST_AFTER && look.contains(&self.next)
+            }
+        };
+        fields && self.headers_are_in_range()
     }
 
     fn see(&mut self, header: Header) {
@@ -106,20 +130,48 @@ impl ExtendedLock {
         self.seen = (self.seen + 1).min(BLOCKS as u32);
     }
 
-    fn matches(&self) -> bool {
+    pub fn matches(&self) -> bool {
         let pilot = [false, false, false, false, true];
         self.seen as usize == BLOCKS && self.headers[END_MARK] && self.headers[PILOT..] == pilot
     }
 
-    fn hunt(self) -> ExtendedLock {
-        ExtendedLock { phase: Phase::Hunting, good: 0, bad: 0, next: 0, ..self }
+    /// One block nearer to each look. The kept phase's own passes are counted on, and nothing is looked at there.
+    fn count_down(&mut self, e: u32) {
+        self.next = self.next.saturating_sub(1);
+        self.kept = match self.kept {
+            0 => 0,
+            1 => 32 * e,
+            blocks => blocks - 1,
+        };
     }
 
+    fn hunt(self) -> ExtendedLock {
+        ExtendedLock { phase: Phase::Hunting, good: 0, bad: 0, next: 0, kept: 0, ..self }
+    }
+
+    /// What is kept stays so until locking.
     fn follow(self, good: u32, e: u32) -> ExtendedLock {
         if good == EXTENDED_LOCKED_AFTER {
-            ExtendedLock { phase: Phase::Locked, good: 0, bad: 0, next: 32 * e, ..self }
+            ExtendedLock { phase: Phase::Locked, good: 0, bad: 0, next: 32 * e, kept: 0, ..self }
         } else {
             ExtendedLock { phase: Phase::Following, good, bad: 0, next: 32 * e, ..self }
+        }
+    }
+
+    /// A match between two looks: the earliest is kept, and later ones change nothing.
+    fn keep(self, between: Between, e: u32) -> ExtendedLock {
+        match (between, self.kept) {
+            (Between::Kept, 0) => ExtendedLock { kept: 32 * e, ..self },
+            _ => self,
+        }
+    }
+
+    /// The followed phase failed: the kept one is followed at once, and with none kept it hunts.
+    fn fail(self) -> ExtendedLock {
+        if self.kept == 0 {
+            self.hunt()
+        } else {
+            ExtendedLock { good: 1, next: self.kept, kept: 0, ..self }
         }
     }
 
@@ -131,14 +183,15 @@ impl ExtendedLock {
         }
     }
 
-    fn step(mut self, e: u32, header: Header) -> ExtendedLock {
+    fn step(mut self, between: Between, e: u32, header: Header) -> ExtendedLock {
         self.see(header);
-        self.next = self.next.saturating_sub(1);
+        self.count_down(e);
         let looks = self.next == 0;
         match (self.phase, looks, self.matches()) {
             (Phase::Hunting, _, true) => self.follow(1, e),
             (Phase::Following, true, true) => self.follow(self.good + 1, e),
-            (Phase::Following, true, false) => self.hunt(),
+            (Phase::Following, true, false) => self.fail(),
+            (Phase::Following, false, true) => self.keep(between, e),
             (Phase::Locked, true, true) => self.hold(0, e),
             (Phase::Locked, true, false) => self.hold(self.bad + 1, e),
             _ => self,
@@ -157,8 +210,8 @@ impl Lock {
     }
 
     /// The fields in their order: header lock's locked, offset, run, bad; extended lock's phase (0 hunting, 1 following,
-    /// 2 locked), seen, headers (the latest is bit 0), good, bad, next.
-    pub fn numbers(&self) -> [u64; 10] {
+    /// 2 locked), seen, headers (the latest is bit 0), good, bad, next, kept.
+    pub fn numbers(&self) -> [u64; 11] {
         let (header, extended) = (&self.header, &self.extended);
         [
             u64::from(header.locked),
@@ -171,6 +224,7 @@ impl Lock {
             u64::from(extended.good),
             u64::from(extended.bad),
             u64::from(extended.next),
+            u64::from(extended.kept),
         ]
     }
 }
@@ -189,26 +243,31 @@ fn refusal(number: u8, e: u32, lock: &Lock, value: u8) -> u8 {
     }
 }
 
-/// Both locks after one more header, given by its value. The header that gives header lock does not step extended lock.
-pub fn step(number: u8, e: u32, lock: Lock, value: u8) -> Stepped {
+/// Both locks after one more header, given by its value, by one of the two tables. The header that gives header lock does
+/// not step extended lock.
+pub fn step_by(between: Between, number: u8, e: u32, lock: Lock, value: u8) -> Stepped {
     let refusal = refusal(number, e, &lock, value);
     let (0, Some(mode)) = (refusal, mode(number)) else { return Stepped { refusal, lock } };
     let header = Header::of(value);
     let after = lock.header.step(mode, header);
     let extended =
-        if lock.header.locked && after.locked { lock.extended.step(e, header) } else { ExtendedLock::fresh() };
+        if lock.header.locked && after.locked { lock.extended.step(between, e, header) } else { ExtendedLock::fresh() };
     Stepped { refusal: 0, lock: Lock { header: after, extended } }
+}
+
+/// As the library steps: by request 4's table.
+pub fn step(number: u8, e: u32, lock: Lock, value: u8) -> Stepped {
+    step_by(Between::Kept, number, e, lock, value)
 }
 
 #[cfg(test)]
 mod tests {
-    use super::{step, ExtendedLock, HeaderLock, Lock, Phase};
+    use super::{step, step_by, Between, ExtendedLock, HeaderLock, Lock, Phase};
     use crate::frame::header_values;
     use crate::mode::row;
+    use crate::pilot::{planted, ONE, ZERO};
     use crate::sender::{send, Sender};
 
-    const ONE: u8 = 1;
-    const ZERO: u8 = 2;
     const BAD: u8 = 3;
 
     fn stepped(e: u32, lock: Lock, headers: &[u8]) -> Lock {
@@ -312,12 +371,120 @@ mod tests {
         assert_eq!((hunts.extended.phase, hunts.extended.good), (Phase::Hunting, 0));
     }
 
+    /// The state after so many blocks of a lane of zeros with pilots, E 2, the first block being that after header lock.
+    fn after(between: Between, pilots: &[usize], blocks: usize) -> ExtendedLock {
+        let headers = planted(300, pilots);
+        headers[..blocks]
+            .iter()
+            .fold(header_locked(), |lock, header| step_by(between, 0, 2, lock, *header).lock)
+            .extended
+    }
+
+    fn check_along(pilots: &[usize], looks: &[(usize, Phase, u32, u32, u32)]) {
+        for (blocks, phase, good, next, kept) in looks {
+            let is = after(Between::Kept, pilots, *blocks);
+            assert_eq!((is.phase, is.good, is.next, is.kept), (*phase, *good, *next, *kept), "after {blocks}");
+        }
+    }
+
     #[test]
-    fn matches_in_between_are_ignored() {
-        let between = stepped(2, header_locked(), &words(&[true, true]));
-        assert_eq!((between.extended.phase, between.extended.good, between.extended.next), (Phase::Following, 1, 32));
-        let looked = stepped(2, between, &word(true));
-        assert_eq!((looked.extended.good, looked.extended.next), (2, 64));
+    fn by_document_01_matches_in_between_are_ignored() {
+        let pilots = [40, 60, 80, 104, 124];
+        assert!((0..300).all(|blocks| after(Between::Ignored, &pilots, blocks).kept == 0));
+        let [failed, hunted] = [167, 168].map(|blocks| after(Between::Ignored, &pilots, blocks));
+        assert_eq!((failed.phase, failed.good, failed.next), (Phase::Following, 2, 1));
+        assert_eq!((hunted.phase, hunted.good, hunted.next), (Phase::Hunting, 0, 0));
+    }
+
+    #[test]
+    fn the_earliest_match_in_between_is_kept() {
+        let steps = [
+            (40, Phase::Following, 1, 64, 0),
+            (59, Phase::Following, 1, 45, 0),
+            (60, Phase::Following, 1, 44, 64),
+            (61, Phase::Following, 1, 43, 63),
+            (79, Phase::Following, 1, 25, 45),
+            (80, Phase::Following, 1, 24, 44),
+            (81, Phase::Following, 1, 23, 43),
+        ];
+        check_along(&[40, 60, 80], &steps);
+    }
+
+    #[test]
+    fn a_look_that_matches_leaves_the_kept_one() {
+        check_along(&[40, 60, 104], &[(103, Phase::Following, 1, 1, 21), (104, Phase::Following, 2, 64, 20)]);
+    }
+
+    /// Neither a match there nor none changes anything: the count starts again.
+    #[test]
+    fn the_kept_phase_is_not_looked_at() {
+        let steps = [(123, Phase::Following, 2, 45, 1), (124, Phase::Following, 2, 44, 64)];
+        check_along(&[40, 60, 104], &steps);
+        check_along(&[40, 60, 104, 124], &steps);
+    }
+
+    /// Even if its own pass had no match, and then by its own phase's next look, not by a whole period from here.
+    #[test]
+    fn the_kept_phase_is_followed_when_the_followed_one_fails() {
+        let at_once = [(103, Phase::Following, 1, 1, 21), (104, Phase::Following, 1, 20, 0)];
+        check_along(&[40, 60], &at_once);
+        let later =
+            [(167, Phase::Following, 2, 1, 21), (168, Phase::Following, 1, 20, 0), (188, Phase::Hunting, 0, 0, 0)];
+        check_along(&[40, 60, 104], &later);
+        check_along(&[40, 60, 104, 124], &later);
+        check_along(&[40, 60, 104, 188], &[(187, Phase::Following, 1, 1, 0), (188, Phase::Following, 2, 64, 0)]);
+    }
+
+    #[test]
+    fn after_adopting_another_may_be_kept() {
+        let steps =
+            [(109, Phase::Following, 1, 15, 0), (110, Phase::Following, 1, 14, 64), (124, Phase::Following, 1, 50, 0)];
+        check_along(&[40, 60, 110], &steps);
+    }
+
+    #[test]
+    fn with_none_kept_a_failed_look_hunts() {
+        check_along(&[40], &[(103, Phase::Following, 1, 1, 0), (104, Phase::Hunting, 0, 0, 0)]);
+    }
+
+    #[test]
+    fn locking_drops_the_kept_phase() {
+        let steps = [(231, Phase::Following, 3, 1, 21), (232, Phase::Locked, 0, 64, 0), (252, Phase::Locked, 0, 44, 0)];
+        check_along(&[40, 60, 104, 168, 232, 252], &steps);
+    }
+
+    #[test]
+    fn losing_header_lock_drops_the_kept_phase() {
+        let kept = Lock { extended: after(Between::Kept, &[40, 60], 60), ..header_locked() };
+        assert_eq!(stepped(2, kept, &[BAD; 15]).extended.kept, 49);
+        assert_eq!(stepped(2, kept, &[BAD; 16]), Lock::fresh());
+    }
+
+    /// From every accepted count of blocks, with and without a match. With something kept no look leads to hunting.
+    #[test]
+    fn the_two_looks_never_meet() {
+        for (e, next, kept) in [1, 2].into_iter().flat_map(|e| pairs_up_to(32 * e).map(move |(n, k)| (e, n, k))) {
+            for (matching, good) in [(false, 1), (false, 3), (true, 1), (true, 3)] {
+                let headers = std::array::from_fn(|k| k == 23 && matching);
+                let extended = ExtendedLock {
+                    phase: Phase::Following,
+                    seen: 32,
+                    headers,
+                    good,
+                    next,
+                    kept,
+                    ..ExtendedLock::fresh()
+                };
+                let after = stepped(e, Lock { extended, ..header_locked() }, &[ONE]);
+                assert_eq!(refusal_of(e, after), 0);
+                assert!(kept == 0 || after.extended.phase != Phase::Hunting);
+            }
+        }
+    }
+
+    /// Every number from 1 on beside every other from 0 on.
+    fn pairs_up_to(most: u32) -> impl Iterator<Item = (u32, u32)> {
+        (1..=most).flat_map(move |one| (0..=most).filter(move |other| *other != one).map(move |other| (one, other)))
     }
 
     #[test]
@@ -337,12 +504,14 @@ mod tests {
         header_values(row(mode), &lane)
     }
 
+    /// Nothing is kept on the way.
     fn blocks_to_both(mode: u8, e: u32, headers: &[u8]) -> usize {
         let mut lock = Lock::fresh();
         let both = |lock: &Lock| lock.header.locked && lock.extended.phase == Phase::Locked;
         let mut taken = 0;
         while !both(&lock) {
             lock = stepped_in(mode, e, lock, &headers[taken..=taken]);
+            assert_eq!(lock.extended.kept, 0);
             taken += 1;
         }
         assert!(headers[taken..].iter().all(|header| {
@@ -352,7 +521,7 @@ mod tests {
         taken
     }
 
-    /// The bound 95 + 128 E is met from every block, and attained from some.
+    /// The bound 95 + 128 E is met from every block, and attained from some: the pilot's ending fits at no other phase.
     #[test]
     fn an_undamaged_crc_lane_is_held() {
         for (mode, e) in [(0, 1), (0, 2), (0, 3), (2, 1), (2, 2), (2, 3)] {
@@ -421,6 +590,29 @@ mod tests {
         check(ExtendedLock { good: 1, ..locked }, 3);
         check(ExtendedLock { next: 0, ..locked }, 3);
         check(ExtendedLock { next: 65, ..locked }, 3);
+    }
+
+    #[test]
+    fn refusals_of_kept_phases() {
+        let check = |e, extended, refusal| assert_eq!(refusal_of(e, Lock { extended, ..header_locked() }), refusal);
+        let fresh = ExtendedLock::fresh();
+        for e in [1, 2, 256] {
+            for next in [1, 7, 32 * e] {
+                let following = ExtendedLock { phase: Phase::Following, good: 1, next, ..fresh };
+                for kept in [0, 1, 6, 7, 8, 32 * e - 1, 32 * e] {
+                    check(e, ExtendedLock { kept, ..following }, if kept == next { 3 } else { 0 });
+                }
+                for kept in [32 * e + 1, 64 * e, u32::MAX] {
+                    check(e, ExtendedLock { kept, ..following }, 3);
+                }
+            }
+        }
+        let locked = ExtendedLock { phase: Phase::Locked, next: 64, ..fresh };
+        for kept in [1, 63, 64, 65] {
+            check(2, ExtendedLock { kept, ..fresh }, 3);
+            check(2, ExtendedLock { kept, ..locked }, 3);
+        }
+        assert_eq!(refusal_of(2, Lock { extended: ExtendedLock { kept: 1, ..fresh }, ..Lock::fresh() }), 3);
     }
 
     #[test]

@@ -26,6 +26,7 @@ mod locks;
 mod longest;
 mod misprint;
 mod mode;
+mod pilot;
 mod polynomial;
 mod receiver;
 mod register;
