@@ -3,7 +3,7 @@ use mathlib.Core.Path.{_≡_, refl, sym, ap, _∙_, subst}
 use mathlib.Core.Logic.{_⊎_, ⊎-elim, inl, inr}
 use mathlib.Core.Bool.{Bool, true, false}
 use mathlib.Core.List.{List}
-use Prim.Native.Nat.{ℕ, zero, suc, _+_, _-_, _*_, _<_, _≤_}
+use Prim.Native.Nat.{ℕ, zero, suc, _+_, _*_, _<_, _≤_}
 use native.Mathlib.Nat.{mul-le-mul-left, le-of-mul-le-mul-left}
 use native.Mathlib.Omega.{arith}
 use lib.Bits.{xor-lt}
@@ -11,7 +11,6 @@ use lib.ListN.{length}
 use Rattle.bits.specs.Order.{bitAt, listFrom}
 use Rattle.bits.proofs.Numbers.{bitAt-lt}
 use Rattle.bits.proofs.Ones.{ones-none}
-use Rattle.parity.specs.Codeword.{Code}
 use Rattle.frame.specs.Modes.{code, repairs, row}
 use Rattle.fill.specs.Register.{shifts}
 use Rattle.frame.specs.Lane.{blockWidth, laneOctets, headerPlace, dataPlace, fillPlace}

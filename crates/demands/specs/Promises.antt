@@ -6,7 +6,7 @@ use mathlib.Core.List.{List, [], _∷_, List·Memᴰ}
 use Prim.Native.Nat.{ℕ, _+_, _-_, _*_, _/_, _%_, _≤_, _<_}
 use lib.ListN.{length}
 use Rattle.bits.specs.Order.{bitAt, listFrom}
-use Rattle.parity.specs.Codeword.{Code, fec, remainderOf}
+use Rattle.parity.specs.Codeword.{fec, remainderOf}
 use Rattle.parity.specs.Bursts.{BurstSet, IsBurst, flips as burstFlips}
 use Rattle.frame.specs.declared.modes.Sync.the-variants.{Crc12}
 use Rattle.frame.specs.Modes.{code, repairs, rows, known, row}

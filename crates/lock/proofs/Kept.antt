@@ -6,10 +6,11 @@ use Prim.Native.Nat.{ℕ, _-_, _*_, _≤_}
 use native.Mathlib.Omega.{arith}
 use borrow.Author.Tests.{eq-eqb, ne-eqb}
 use lib.Dec.{eqb}
+use Rattle.bits.proofs.Choice.{parts-true}
 use Rattle.frame.specs.declared.headers.Header.{Header}
 use Rattle.frame.specs.Headers.{headerRead}
 use Rattle.frame.proofs.Rows.{extent-within}
-use Rattle.lock.specs.ExtendedTable.{withHeader, matches, following, extendedRow, moved, extendedStep}
+use Rattle.lock.specs.ExtendedTable.{withHeader, matches, following, moved, extendedStep}
 use Rattle.lock.specs.Table.{lockStep}
 use Rattle.lock.specs.Ranges.{phaseInRange, extendedInRange, isHunting, isFresh, accepted}
 use Rattle.lock.specs.Refusals.{widthOf, stepped}
@@ -18,7 +19,6 @@ use Rattle.lock.specs.declared.Phase.the-variants.{Following}
 use Rattle.lock.specs.declared.ExtendedLock.{ExtendedLock}
 use Rattle.lock.specs.declared.Lock.{Lock}
 use Rattle.lock.specs.declared.Stepped.{Stepped}
-use Rattle.bits.proofs.Choice.{parts-true}
 use Rattle.lock.proofs.ExtendedRows.{step-by}
 use Rattle.lock.proofs.ExtendedRange.{FollowingIn, following-range, phase-range}
 use Rattle.lock.proofs.Accepted.{accepted-parts, accepted-step, Taken, taken, stepped-taken}

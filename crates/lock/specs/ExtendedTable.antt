@@ -44,24 +44,26 @@ following x good next kept = counted x Following good 0 next kept
 abbrev pub locked : ExtendedLock → ℕ → ℕ → ExtendedLock
 locked x bad next = counted x Locked 0 bad next 0
 
--- request 4: each header takes one off the kept phase's count; one that reaches 0 starts again at 32E. With nothing kept it is 0, and stays so
+-- request 4: each header takes one off the kept count as well; one that reaches 0 starts again at 32E: nothing is looked at there. 0, for
+-- nothing kept, stays
 abbrev pub ranOn : ℕ → ℕ → ℕ
 ranOn period kept = pick (eqb kept 1) period (kept - 1)
 
 -- by: the phase, is this a block to look at, does it match
 abbrev pub extendedRow : Phase → Bool → Bool → ℕ → ExtendedLock → ExtendedLock
--- while hunting, a match makes it following, good count 1
+-- while hunting, a match makes it following, good count 1; following and locked look only at every 32E-th block from there
 extendedRow Hunting look true period x = following x 1 period 0
 extendedRow Hunting look false period x = hunting x
--- following and locked look only at every 32E-th block from there; while locked, matches seen in between are ignored
-extendedRow Locked false match period x = locked x (x .bad) (x .next - 1)
--- request 4: a match where the followed one isn't looked at, with nothing kept, is kept, 32E blocks to its next look; the earliest stays
+-- following: a match at a block where the followed one isn't looked at, with nothing kept, is kept, 32E blocks to its next look; the earliest
+-- stays, and later matches change nothing (request 4)
 extendedRow Following false match period x = following x (x .good) (x .next - 1) (pick (match && eqb (x .kept) 0) period (ranOn period (x .kept)))
--- following: match adds 1, locked at 4; request 4: the kept one stays, until locking drops it
+-- match adds 1, locked at 4; what is kept stays, until locking, which drops it (request 4)
 extendedRow Following true true period x = pick (eqb (x .good + 1) 4) (locked x 0 period) (following x (x .good + 1) period (ranOn period (x .kept)))
--- no match: if one is kept, it is followed at once with good count 1, and nothing is kept; if none, hunting
+-- no match: if one is kept, it is followed at once with good count 1, its count becomes the blocks to the next look, and nothing is kept
+-- (request 4); if none, hunting
 extendedRow Following true false period x = pick (eqb (x .kept) 0) (hunting x) (following x 1 (ranOn period (x .kept)) 0)
--- locked: match sets bad 0; no match adds 1, hunting at 8
+-- locked: match sets bad 0; no match adds 1, hunting at 8; matches seen in between are ignored
+extendedRow Locked false match period x = locked x (x .bad) (x .next - 1)
 extendedRow Locked true true period x = locked x 0 period
 extendedRow Locked true false period x = pick (eqb (x .bad + 1) 8) (hunting x) (locked x (x .bad + 1) period)
 

@@ -34,8 +34,8 @@ pub enum Phase {
 }
 
 // The last 32 sync bits, the latest in bit 0, with how many were seen: a missing one is 0.
-// Good counts while following, bad while locked, and next is the number of blocks to the next look. Kept is the number of blocks to the
-// next look of the phase that was seen while another is followed, 0 for none.
+// Good counts while following, bad while locked, and next is the number of blocks to the next look. Kept is the number of blocks to where
+// a match that came while another is followed would be looked at next, 0 for none.
 pub struct ExtendedLock {
     pub phase: Phase,
     pub seen: u32,
