@@ -54,8 +54,8 @@ module _ (period : ℕ) where
   never-meet next kept h l n = pick-both (λ (k : ℕ). k ≡ next - 1 → ⊥) (eqb kept 1) _ _ (λ q z. omega (arith, l)) (λ q z. omega (arith, n, h))
 
   -- at a look the kept count doesn't start again
-  at-look : (next kept : ℕ) → next ≡ 1 → (kept ≡ next → ⊥) → ranOn period kept ≡ kept - 1
-  at-look next kept e n = simp (ne-eqb kept 1 (λ z. n (z ∙ sym e)))
+  one-off : (next kept : ℕ) → next ≡ 1 → (kept ≡ next → ⊥) → ranOn period kept ≡ kept - 1
+  one-off next kept e n = simp (ne-eqb kept 1 (λ z. n (z ∙ sym e)))
 
 -- ---- extended lock
 
@@ -125,13 +125,13 @@ module _ (period : ℕ) (x : ExtendedLock) (w : headersInRange x ≡ true) where
       (λ q. following-ranged (x .good) (x .next - 1) (ranOn period (x .kept)) (i .least) (i .most) m l (ran-within period (x .kept) (i .within)) (never-meet period (x .next) (x .kept) m (i .late) (i .apart)))
   extended-row Following true true h n e =
       let i = following-range period x e in
-      let k = at-look period (x .next) (x .kept) (eqb-true (x .next) 1 n) (i .apart) in
+      let k = one-off period (x .next) (x .kept) (eqb-true (x .next) 1 n) (i .apart) in
       pick-both Ranged (eqb (x .good + 1) 4) _ _ (λ q. locked-ranged 0 period (omega arith) h (omega arith))
       (λ q. following-ranged (x .good + 1) period (ranOn period (x .kept)) (omega arith) (omega (arith, i .most, eqb-false (x .good + 1) 4 q)) h (omega arith)
       (ran-within period (x .kept) (i .within)) (λ z. omega (arith, k, i .within)))
   extended-row Following true false h n e =
       let i = following-range period x e in
-      let k = at-look period (x .next) (x .kept) (eqb-true (x .next) 1 n) (i .apart) in
+      let k = one-off period (x .next) (x .kept) (eqb-true (x .next) 1 n) (i .apart) in
       pick-both Ranged (eqb (x .kept) 0) _ _ (λ q. hunting-ranged)
       (λ q.
       let s : 1 ≤ ranOn period (x .kept) = omega (arith, k, i .apart, eqb-true (x .next) 1 n, eqb-false (x .kept) 0 q) in

@@ -1,4 +1,4 @@
-// One header for extended lock: clause 7.6.2; document 01, "Lock tables".
+// One header for extended lock: clause 7.6.2; document 01, "Lock tables"; request 4.
 ghost use mathlib.Core.Path.{_≡_};
 ghost use mathlib.Core.Bool.{true, false};
 ghost use lib.Dec.{eqb};
@@ -87,7 +87,7 @@ fn between_looks(period: u32, lock: ExtendedLock, matched: bool) -> ExtendedLock
 }
 
 // Following, at a look.
-fn looked_next(period: u32, lock: ExtendedLock, matched: bool) -> ExtendedLock
+fn at_look(period: u32, lock: ExtendedLock, matched: bool) -> ExtendedLock
     requires { ⌜ phaseInRange Following period lock ≡ true ⌝ }
     ensures { λ r. ⌜ r ≡ extendedRow Following true matched period lock ⌝ }
 {
@@ -110,7 +110,7 @@ fn following_next(period: u32, lock: ExtendedLock, look: bool, matched: bool) ->
     ensures { λ r. ⌜ r ≡ extendedRow Following look matched period lock ⌝ }
 {
     if look {
-        return looked_next(period, lock, matched);
+        return at_look(period, lock, matched);
     }
     between_looks(period, lock, matched)
 }

@@ -1,4 +1,4 @@
-// Which states are accepted: document 01, "Numbers of refusal", line 3.
+// Which states are accepted: document 01, "Numbers of refusal", line 3; request 4.
 ghost use mathlib.Core.Path.{_≡_};
 ghost use Rattle.lock.specs.Ranges.{headerInRange, headersInRange, phaseInRange, extendedInRange, isHunting, isFresh, accepted};
 use crate::ExtendedLock;
@@ -25,16 +25,13 @@ fn headers_in_range(lock: ExtendedLock) -> bool
 fn phase_in_range(period: u32, lock: ExtendedLock) -> bool
     ensures { λ r. ⌜ r ≡ phaseInRange (lock .phase) period lock ⌝ }
 {
+    let good_fits = (1 <= lock.good) & (lock.good <= 3);
     let next_fits = (1 <= lock.next) & (lock.next <= period);
     let kept_fits = (lock.kept <= period) & (lock.kept != lock.next);
     let phase = lock.phase;
     match phase {
         Phase::Hunting => (lock.good == 0) & (lock.bad == 0) & (lock.next == 0) & (lock.kept == 0),
-        Phase::Following => (1 <= lock.good)
-            & (lock.good <= 3)
-            & (lock.bad == 0)
-            & next_fits
-            & kept_fits,
+        Phase::Following => good_fits & (lock.bad == 0) & next_fits & kept_fits,
         Phase::Locked => (lock.good == 0) & (lock.bad <= 7) & next_fits & (lock.kept == 0),
     }
 }

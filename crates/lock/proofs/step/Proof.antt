@@ -20,9 +20,9 @@ use Rattle.lock.proofs.Accepted.{taken}
 use Rattle.lock.proofs.step.Statement.{statement}
 use Rattle.lock.proofs.step.Tie as tie
 
-kept : (mode E header r : ℕ) (lock : Lock) → r ≡ refusalBy (refusals mode E lock header) → (r ≡ 0 → ⊥) → _≡_ {A = Stepped} (record { refusal = r; lock = lock }) (stepped mode E lock header)
+handed-back : (mode E header r : ℕ) (lock : Lock) → r ≡ refusalBy (refusals mode E lock header) → (r ≡ 0 → ⊥) → _≡_ {A = Stepped} (record { refusal = r; lock = lock }) (stepped mode E lock header)
 unfolding stepped
-kept mode E header r lock e n =
+handed-back mode E header r lock e n =
     ap₂ (λ (k : ℕ) (y : Lock). record { refusal = k; lock = y }) e
     (ap (λ (t : Bool). pick t (lockStep (widthOf mode) (32 * E) lock (headerRead header)) lock) (sym (ne-eqb (refusalBy (refusals mode E lock header)) 0 (λ z. n (e ∙ z)))))
 
@@ -41,7 +41,7 @@ refusal-of-requires : tie.Need-refusal-of-requires
 refusal-of-requires c κs = c .width-of .ensures
 
 returns : tie.Need-returns
-returns c = let a = c .before .before .before .args in kept (a .mode) (a .e) (a .header) _ (a .lock) (c .before .refusal-of .ensures) (c .if1 .taken)
+returns c = let a = c .before .before .before .args in handed-back (a .mode) (a .e) (a .header) _ (a .lock) (c .before .refusal-of .ensures) (c .if1 .taken)
 
 read-requires : tie.Need-read-requires
 read-requires c κs = search needs

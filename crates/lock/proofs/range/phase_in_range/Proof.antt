@@ -17,13 +17,13 @@ enum-told-3 : tie.Need-enum-told-3
 enum-told-3 c = search needs
 
 returns : tie.Need-returns
-returns c = let s = c .before .before .before .before in let a = s .before .before .before .before .before .before .args in ap (λ (f : Phase). phaseInRange f (a .period) (a .lock)) (sym (s .enum-told .given .1))
+returns c = let s = c .before .before .before .before in let a = s .before .before .before .before .before .before .before .before .args in ap (λ (f : Phase). phaseInRange f (a .period) (a .lock)) (sym (s .enum-told .given .1))
 
 returns-2 : tie.Need-returns-2
-returns-2 c = let s = c .before .before .before in let a = s .before .before .before .before .before .before .args in ap (λ (f : Phase). phaseInRange f (a .period) (a .lock)) (sym (s .enum-told2 .given .1))
+returns-2 c = let s = c .before in let a = s .before .before .before .before .before .before .before .before .args in ap (λ (f : Phase). phaseInRange f (a .period) (a .lock)) (sym (s .enum-told2 .given .1))
 
 returns-3 : tie.Need-returns-3
-returns-3 c = let s = c .before .before .before in let a = s .before .before .before .before .before .before .args in ap (λ (f : Phase). phaseInRange f (a .period) (a .lock)) (sym (s .enum-told3 .given .1))
+returns-3 c = let s = c .before .before .before in let a = s .before .before .before .before .before .before .before .before .args in ap (λ (f : Phase). phaseInRange f (a .period) (a .lock)) (sym (s .enum-told3 .given .1))
 
 pub phase-in-range-spec : {M : Type 1} → statement M
 phase-in-range-spec = tie.close (tie.spec enum-told enum-told-2 enum-told-3 returns returns-2 returns-3)

@@ -1,11 +1,11 @@
--- `lock::extended::looked_next` meets its contract.
+-- `lock::extended::at_look` meets its contract.
 -- Assumes nothing.
 use borrow.Author.Needs.{needs}
 use native.Mathlib.Omega.{arith}
 use borrow.Author.Tests.{eq-eqb, ne-eqb, not-true, not-false}
 use Rattle.lock.proofs.ExtendedRange.{following-range}
-use Rattle.lock.proofs.extended.looked_next.Statement.{statement}
-use Rattle.lock.proofs.extended.looked_next.Tie as tie
+use Rattle.lock.proofs.extended.at_look.Statement.{statement}
+use Rattle.lock.proofs.extended.at_look.Tie as tie
 
 ran-on-requires : tie.Need-ran-on-requires
 ran-on-requires c κs = search needs
@@ -37,8 +37,8 @@ following-requires-2 c κs = search needs
 returns-4 : tie.Need-returns-4
 returns-4 c = let a = c .before .before .before .before .before .args in simp (not-false (a .matched) (c .before .before .before .if1 .left), ne-eqb _ _ (c .before .if3 .left), c .before .before .before .before .ran-on .ensures, c .following2 .ensures)
 
-pub looked-next-spec : {M : Type 1} → statement M
-looked-next-spec =
+pub at-look-spec : {M : Type 1} → statement M
+at-look-spec =
     tie.close
     (tie.spec
     ran-on-requires
