@@ -183,7 +183,7 @@ impl ExtendedLock {
         }
     }
 
-    fn step(mut self, between: Between, e: u32, header: Header) -> ExtendedLock {
+    pub fn step(mut self, between: Between, e: u32, header: Header) -> ExtendedLock {
         self.see(header);
         self.count_down(e);
         let looks = self.next == 0;

@@ -1,9 +1,10 @@
 //! The second program: scrambling bit by bit (clause 7.2.4), fill bits by Table 38 (clause 7.2.5), sync words by the lists
 //! of Tables 41 and 45 (clause 7.3), and parity by long division of polynomials (clauses 7.4.2 and 7.5.2).
 //! `second tables` prints Tables 37, 52, 54 and 55, a spread of sync words, and what headers read as; `second misprint`,
-//! `second bursts` and `second fill` print what can be found by trying every case. `second bulk FIRST LAST` prints a line for
-//! the seeded case of each seed from FIRST to LAST. `second captures` prints named captures one after another, `second capture
-//! NAME` one of them, and `second listings` the listings of those on standard input.
+//! `second bursts` and `second fill` print what can be found by trying every case, and `second locking` how soon lanes of FEC
+//! are locked by the table of document 01 and by that of request 4. `second bulk FIRST LAST` prints a line for the seeded case
+//! of each seed from FIRST to LAST. `second captures` prints named captures one after another, `second capture NAME` one of
+//! them, and `second listings` the listings of those on standard input.
 
 mod bits;
 mod bulk;
@@ -19,9 +20,11 @@ mod frame;
 mod generator;
 mod header;
 mod lanes;
+mod later;
 mod listed;
 mod listing;
 mod lock;
+mod locking;
 mod locks;
 mod longest;
 mod misprint;
@@ -30,6 +33,7 @@ mod pilot;
 mod polynomial;
 mod receiver;
 mod register;
+mod repeating;
 mod scrambler;
 mod sender;
 mod sync;
@@ -40,7 +44,7 @@ use std::io::{stdin, stdout, Read, Write};
 use std::process::ExitCode;
 
 const USAGE: &str =
-    "usage: second tables | misprint | bursts | fill | bulk FIRST LAST | captures | capture NAME | listings <CAPTURES";
+    "usage: second tables | misprint | bursts | fill | locking | bulk FIRST LAST | captures | capture NAME | listings <CAPTURES";
 
 fn text(lines: &[String]) -> Vec<u8> {
     lines.iter().flat_map(|line| format!("{line}\n").into_bytes()).collect()
@@ -59,6 +63,7 @@ fn answer(arguments: &[String]) -> Option<Vec<u8>> {
         ["misprint"] => Some(text(&misprint::lines())),
         ["bursts"] => Some(text(&bursts::lines())),
         ["fill"] => Some(text(&register::lines())),
+        ["locking"] => Some(text(&locking::lines())),
         ["bulk", first, last] => Some(text(&bulk::lines(first.parse().ok()?, last.parse().ok()?))),
         ["captures"] => Some(captures::packed(&captures::cases())),
         ["capture", name] => captures::named(name),
