@@ -1,6 +1,6 @@
 /* The locks at the edges of their tables and along lanes that the sender made: document 01, "Lock tables" and "Numbers of
-   refusal"; of offsets modulo 80 document 02, request 2. A line says what was tried and what came out; lock.txt has the lines
-   expected. */
+   refusal"; of offsets modulo 80 document 02, request 2; of the kept phase request 4. A line says what was tried and what came
+   out; lock.txt has the lines expected. */
 #include "lane.h"
 
 enum { INVALID = 0, ONE = 1, ZERO = 2, ALSO_INVALID = 3 };
@@ -152,11 +152,17 @@ static void run_slips(u8 mode, size from) {
         state.header.locked ? "held" : "NOT HELD", state.header.offset);
 }
 
-static void print_extended(const char *label, locks state) {
+/* What comes after the label. */
+static void print_fields(locks state) {
     static const char *const phases[] = {"hunting", "following", "locked"};
     struct zaytulobe_extended_lock extended = state.extended;
-    printf("  %s: %s, seen %u, good %u, bad %u, next look in %u\n", label, phases[extended.phase], extended.seen, extended.good,
-        extended.bad, extended.next);
+    printf(": %s, seen %u, good %u, bad %u, next look in %u, kept %u\n", phases[extended.phase], extended.seen, extended.good,
+        extended.bad, extended.next, extended.kept);
+}
+
+static void print_extended(const char *label, locks state) {
+    printf("  %s", label);
+    print_fields(state);
 }
 
 /* So many multiblocks, each with the end mark or without it. */
@@ -185,9 +191,192 @@ static void run_extended(void) {
     printf("Extended lock, CRC-12, E 2, multiblocks with all fields 0:\n");
     held = fed_words(2, fresh, 3, 1);
     print_extended("3 with the end mark", held);
-    print_extended("then 6 with, of which every other is ignored", fed_words(2, held, 6, 1));
-    print_extended("then 1 without, which is ignored", fed_words(2, held, 1, 0));
+    print_extended("then 6 with, of which every other is between two looks", fed_words(2, held, 6, 1));
+    print_extended("then 1 without, between two looks", fed_words(2, held, 1, 0));
     print_extended("then 2 without", fed_words(2, held, 2, 0));
+    locks kept = fed_words(2, held, 1, 1);
+    print_extended("then 1 with, between two looks", kept);
+    print_extended("then 2 with", fed_words(2, kept, 1, 1));
+    print_extended("then 1 with, 1 without", fed_words(2, kept, 1, 0));
+    print_extended("then 1 with, 3 without", fed_words(2, kept, 3, 0));
+}
+
+/* Headers that carry 0 but for pilots, fed to fresh locks from the first on, whose block is 1. */
+enum { MOST_PLANTED = 640, NO_PILOT = 0 };
+static u8 planted[MOST_PLANTED];
+
+/* Pilots that end in these blocks, up to the first that is none: the end mark stands nine blocks before the last, 0 in the four
+   before the last, and 1 in the last. */
+static void plant(const size *blocks) {
+    memset(planted, ZERO, sizeof planted);
+    for (; *blocks != NO_PILOT; blocks++) {
+        u8 *last = planted + *blocks - 1;
+        last[-9] = ONE;
+        memset(last - 4, ZERO, 4);
+        last[0] = ONE;
+    }
+}
+
+static void print_pilots(u32 e, const size *blocks) {
+    printf("FEC, E %u, headers that carry 0 but for pilots that end in blocks", e);
+    for (; *blocks != NO_PILOT; blocks++)
+        printf(" %lu", *blocks);
+    printf(":\n");
+}
+
+static locks after_planted(u32 e, size blocks) {
+    locks state = zaytulobe_fresh_lock();
+    for (size k = 0; k < blocks; k++)
+        state = stepped(FEC, e, state, planted[k]);
+    return state;
+}
+
+/* After a block, and what is there. */
+struct look {
+    size block;
+    const char *what;
+};
+
+/* The states after some blocks, up to the first that is none. */
+static void run_planted(u32 e, const size *blocks, const struct look *looks) {
+    plant(blocks);
+    print_pilots(e, blocks);
+    for (; looks->block != NO_PILOT; looks++) {
+        printf("  after block %lu%s", looks->block, looks->what);
+        print_fields(after_planted(e, looks->block));
+    }
+}
+
+/* Each row of the table while following. Header lock is held from block 64 on, and a match may come from block 96 on. */
+static void run_kept_rows(void) {
+    static const size blocks[] = {104, 124, 144, 168, NO_PILOT};
+    static const struct look looks[] = {
+        {103, ""}, {104, ", a match while hunting"}, {123, ""}, {124, ", a match between two looks"}, {125, ""}, {143, ""},
+        {144, ", a later match"}, {167, ""}, {168, ", a look with a match"}, {187, ""},
+        {188, ", the kept phase's own pass, no match"}, {189, ""}, {231, ""}, {232, ", a look without a match"}, {251, ""},
+        {252, ", a look without a match, nothing kept"}, {NO_PILOT, 0}};
+    run_planted(2, blocks, looks);
+}
+
+/* A match at the kept phase's own pass; and one kept again after the kept one was followed. */
+static void run_kept_passes(void) {
+    static const size blocks[] = {104, 124, 168, 188, 240, 252, NO_PILOT};
+    static const struct look looks[] = {
+        {187, ""}, {188, ", the kept phase's own pass, a match"}, {231, ""}, {232, ", a look without a match"},
+        {240, ", a match between two looks"}, {251, ""}, {252, ", a look with a match"}, {316, ", a look without a match"},
+        {368, ", a look without a match, nothing kept"}, {NO_PILOT, 0}};
+    run_planted(2, blocks, looks);
+}
+
+static void run_kept_dropped(void) {
+    static const size blocks[] = {104, 124, 168, 232, 296, 316, NO_PILOT};
+    static const struct look looks[] = {
+        {232, ", a look with a match"}, {295, ""}, {296, ", a look with a match, which locks"},
+        {316, ", a match between two looks"}, {360, ", a look without a match"}, {NO_PILOT, 0}};
+    run_planted(2, blocks, looks);
+}
+
+static void run_kept_by_32(void) {
+    static const size blocks[] = {104, 114, 136, NO_PILOT};
+    static const struct look looks[] = {
+        {113, ""}, {114, ", a match between two looks"}, {135, ""}, {136, ", a look with a match"}, {145, ""},
+        {146, ", the kept phase's own pass, no match"}, {168, ", a look without a match"},
+        {178, ", a look without a match, nothing kept"}, {NO_PILOT, 0}};
+    run_planted(1, blocks, looks);
+}
+
+static void run_kept_at_last(void) {
+    static const size blocks[] = {104, 167, NO_PILOT};
+    static const struct look looks[] = {
+        {166, ""}, {167, ", a match one block before the look"}, {168, ", a look without a match"}, {230, ""},
+        {231, ", a look without a match, nothing kept"}, {NO_PILOT, 0}};
+    run_planted(2, blocks, looks);
+}
+
+static void run_kept_and_header_lock(void) {
+    static const size blocks[] = {104, 124, NO_PILOT};
+    plant(blocks);
+    print_pilots(2, blocks);
+    locks worn = after_planted(2, 124);
+    for (u32 k = 0; k < 15; k++)
+        worn = stepped(FEC, 2, worn, INVALID);
+    print_extended("after block 124, then 15 invalid headers", worn);
+    print_extended("after block 124, then 16 invalid headers", stepped(FEC, 2, worn, INVALID));
+}
+
+static void run_all_kept(void) {
+    run_kept_rows();
+    run_kept_passes();
+    run_kept_dropped();
+    run_kept_by_32();
+    run_kept_at_last();
+    run_kept_and_header_lock();
+}
+
+/* Two lanes that are locked later than by document 01's table, which ignores matches between two looks: by that table, of which
+   `second locking` prints it (second/expected/locking.txt), both locks are held after 414 and after 433 headers. */
+static void run_later(const size *blocks) {
+    plant(blocks);
+    print_pilots(2, blocks);
+    locks state = zaytulobe_fresh_lock();
+    size fed_headers = 0;
+    while (fed_headers < MOST_PLANTED && !both_held(state))
+        state = stepped(FEC, 2, state, planted[fed_headers++]);
+    printf("  both locks %s after %lu headers\n", both_held(state) ? "first held" : "NOT HELD", fed_headers);
+}
+
+static void run_late_lanes(void) {
+    static const size asked[] = {151, 183, 222, 247, 286, 311, 350, 414, 478, 542, NO_PILOT};
+    static const size failed[] = {102, 135, 166, 241, 263, 305, 369, 433, 497, NO_PILOT};
+    run_later(asked);
+    run_later(failed);
+}
+
+/* Every multiblock on the lane has the same scrambled octets, all 0 but the last, which is 9: each user bit is the bit sent, plus
+   those sent 39 and 58 earlier, and 0 before the first. Their parity, the same in every sync word but the first, has a pilot in
+   it that ends in block 13 (`second locking` has the search). */
+static u8 repeated_bit(size n) {
+    return n % DATA_BITS < DATA_BITS - 8 ? 0 : 9 >> (7 - n % 8) & 1;
+}
+
+static void repeat_multiblocks(size multiblocks) {
+    memset(user, 0, sizeof user);
+    for (size n = 0; n < DATA_BITS * multiblocks; n++) {
+        u8 near = n < 39 ? 0 : repeated_bit(n - 39), far = n < 58 ? 0 : repeated_bit(n - 58);
+        user[n / 8] |= (u8)((repeated_bit(n) ^ near ^ far) << (7 - n % 8));
+    }
+}
+
+enum { REPEATED = 40 };
+
+/* How many data bits of the lane aren't those that repeat. */
+static size unlike_repeated(void) {
+    size wrong = 0;
+    for (size n = 0; n < DATA_BITS * REPEATED; n++)
+        wrong += lane_bit(place_of(FEC, n / DATA_BITS, n % DATA_BITS)) != repeated_bit(n);
+    return wrong;
+}
+
+/* From each block of the first extended multiblock: how far before its end both locks are first held. They are to be held at the
+   lane's end, with no look missed and the next at the same distance. */
+static void run_repeating(u32 e) {
+    size starts = BLOCKS * e, blocks = BLOCKS * REPEATED, from_distance[2 * BLOCKS] = {0}, lost = 0;
+    repeat_multiblocks(REPEATED);
+    send_user(FEC, e, REPEATED);
+    printf("FEC, E %u, %d multiblocks with the same scrambled octets, %lu bits unlike them:\n", e, REPEATED, unlike_repeated());
+    for (size from = 0; from < starts; from++) {
+        size block = from + both_after(FEC, e, from, blocks - from) - 1, distance = starts - 1 - block % starts;
+        locks state = zaytulobe_fresh_lock();
+        for (size k = from; k < blocks; k++)
+            state = stepped(FEC, e, state, header_at(block_bits(FEC) * k));
+        from_distance[distance]++;
+        lost += !both_held(state) || state.extended.bad != 0 || (blocks - 1 + state.extended.next - block) % starts != 0;
+    }
+    for (size distance = 0; distance < starts; distance++)
+        if (from_distance[distance] != 0)
+            printf("  both locks first held %lu blocks before the true end: begun at %lu of %lu blocks\n", distance,
+                from_distance[distance], starts);
+    printf("  not held there at the lane's end: begun at %lu of them\n", lost);
 }
 
 static int same_locks(locks one, locks other) {
@@ -325,6 +514,38 @@ static void run_locked_states(void) {
     try_looking("extended lock given as 3", 3, 1, 0, 0, 1);
 }
 
+/* The kept phase beside the next look, with header lock held. */
+static void try_kept(u32 phase, u32 e, u32 next, u32 kept) {
+    static const char *const phases[] = {"hunting", "following", "locked"};
+    locks state = {{.locked = 1}, {phase, 32, 0, phase == FOLLOWING, 0, next, kept}};
+    printf("extended lock %s, E %u, next look in %u, kept %u", phases[phase], e, next, kept);
+    try_step("", FEC, e, state, 1);
+}
+
+static void run_kept_states(void) {
+    static const u32 beside[][2] = {{7, 0}, {7, 1}, {7, 6}, {7, 7}, {7, 8}, {7, 32}, {7, 33}, {7, 64}, {7, 65}, {7, 0xffffffff},
+        {1, 0}, {1, 1}, {1, 2}, {1, 32}, {32, 0}, {32, 31}, {32, 32}, {32, 64}, {64, 63}, {64, 64}};
+    for (size k = 0; k < sizeof beside / sizeof beside[0]; k++)
+        for (u32 e = 1; e <= 2; e++)
+            if (beside[k][0] <= BLOCKS * e)
+                try_kept(FOLLOWING, e, beside[k][0], beside[k][1]);
+    try_kept(FOLLOWING, 256, 7, 8192);
+    try_kept(FOLLOWING, 256, 7, 8193);
+    for (u32 e = 1; e <= 2; e++) {
+        try_kept(HUNTING, e, 0, 1);
+        try_kept(HUNTING, e, 0, 32);
+        try_kept(LOCKED, e, 7, 1);
+        try_kept(LOCKED, e, 7, 7);
+        try_kept(LOCKED, e, 7, 32);
+    }
+    struct zaytulobe_extended_lock alone = {.kept = 1}, above = {FOLLOWING, 32, 0, 1, 0, 7, 33};
+    locks state = {{.locked = 1}, above};
+    try_extended("header lock hunting, kept 1", 1, 0, alone);
+    try_step("E 0 and kept 33", FEC, 0, state, 1);
+    try_step("E 1, kept 33 and header 4", FEC, 1, state, 4);
+    try_step("E 2, kept 33 and header 4", FEC, 2, state, 4);
+}
+
 int main(void) {
     run_header();
     run_header_80(CRC12_80);
@@ -337,11 +558,16 @@ int main(void) {
     run_slips(FEC_80, 41);
     run_all_lanes();
     run_extended();
+    run_all_kept();
+    run_late_lanes();
+    run_repeating(1);
+    run_repeating(2);
     run_calls();
     run_offsets();
     run_header_states();
     run_hunting_states();
     run_following_states();
     run_locked_states();
+    run_kept_states();
     return 0;
 }
