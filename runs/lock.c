@@ -357,25 +357,35 @@ static size unlike_repeated(void) {
     return wrong;
 }
 
-/* From each block of the first extended multiblock: how far before its end both locks are first held. They are to be held at the
-   lane's end, with no look missed and the next at the same distance. */
-static void run_repeating(u32 e) {
-    size starts = BLOCKS * e, blocks = BLOCKS * REPEATED, from_distance[2 * BLOCKS] = {0}, lost = 0;
-    repeat_multiblocks(REPEATED);
-    send_user(FEC, e, REPEATED);
-    printf("FEC, E %u, %d multiblocks with the same scrambled octets, %lu bits unlike them:\n", e, REPEATED, unlike_repeated());
-    for (size from = 0; from < starts; from++) {
-        size block = from + both_after(FEC, e, from, blocks - from) - 1, distance = starts - 1 - block % starts;
-        locks state = zaytulobe_fresh_lock();
-        for (size k = from; k < blocks; k++)
-            state = stepped(FEC, e, state, header_at(block_bits(FEC) * k));
-        from_distance[distance]++;
-        lost += !both_held(state) || state.extended.bad != 0 || (blocks - 1 + state.extended.next - block) % starts != 0;
-    }
+/* Whether the locks, begun at one block and first held at another, are held there at the lane's end too: no look was missed, and the
+   next one is so many periods on. */
+static int held_to_the_end(u32 e, size from, size block) {
+    size blocks = BLOCKS * REPEATED;
+    locks state = zaytulobe_fresh_lock();
+    for (size k = from; k < blocks; k++)
+        state = stepped(FEC, e, state, header_at(block_bits(FEC) * k));
+    return both_held(state) && state.extended.bad == 0 && (blocks - 1 + state.extended.next - block) % (BLOCKS * e) == 0;
+}
+
+static void print_distances(size starts, const size *from_distance) {
     for (size distance = 0; distance < starts; distance++)
         if (from_distance[distance] != 0)
             printf("  both locks first held %lu blocks before the true end: begun at %lu of %lu blocks\n", distance,
                 from_distance[distance], starts);
+}
+
+/* From each block of the first extended multiblock: how far before its end both locks are first held. */
+static void run_repeating(u32 e) {
+    size starts = BLOCKS * e, from_distance[2 * BLOCKS] = {0}, lost = 0;
+    repeat_multiblocks(REPEATED);
+    send_user(FEC, e, REPEATED);
+    printf("FEC, E %u, %d multiblocks with the same scrambled octets, %lu bits unlike them:\n", e, REPEATED, unlike_repeated());
+    for (size from = 0; from < starts; from++) {
+        size block = from + both_after(FEC, e, from, BLOCKS * REPEATED - from) - 1;
+        from_distance[starts - 1 - block % starts]++;
+        lost += !held_to_the_end(e, from, block);
+    }
+    print_distances(starts, from_distance);
     printf("  not held there at the lane's end: begun at %lu of them\n", lost);
 }
 
