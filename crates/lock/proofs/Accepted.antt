@@ -1,4 +1,5 @@
--- An accepted state steps to an accepted state, and a call is taken exactly where all its parts are in range. Assumes nothing.
+-- An accepted state steps to an accepted state, so that a call which is taken returns a state that the next one takes; a call is taken exactly
+-- where all its parts are in range. Assumes nothing.
 use mathlib.Core.Path.{_≡_, refl, sym, ap, subst, _∙_}
 use mathlib.Core.Bool.{Bool, true, false, not, _||_, or-true}
 use Prim.Native.Nat.{ℕ, _*_, _≤_, _<_}
@@ -10,6 +11,7 @@ use Rattle.bits.proofs.Refusals.{passed, none-left, not-given}
 use Rattle.frame.specs.declared.headers.Header.{Header}
 use Rattle.frame.specs.Headers.{headerRead}
 use Rattle.frame.specs.Modes.{known, extentFits}
+use Rattle.frame.proofs.Rows.{extent-within}
 use Rattle.lock.specs.HeaderTable.{valid, headerStep}
 use Rattle.lock.specs.Table.{fresh, extendedAfter, lockStep}
 use Rattle.lock.specs.Ranges.{headerInRange, extendedInRange, isFresh, accepted}
@@ -17,6 +19,7 @@ use Rattle.lock.specs.Refusals.{widthOf, refusals, stepped}
 use Rattle.lock.specs.declared.HeaderLock.{HeaderLock}
 use Rattle.lock.specs.declared.ExtendedLock.{ExtendedLock}
 use Rattle.lock.specs.declared.Lock.{Lock}
+use Rattle.lock.specs.declared.Stepped.{Stepped}
 use Rattle.lock.proofs.HeaderRange.{hunting-in, header-keeps}
 use Rattle.lock.proofs.ExtendedRange.{extended-keeps, fresh-extended, is-fresh}
 
@@ -92,3 +95,12 @@ module _ (mode E : ℕ) (lock : Lock) (header : ℕ) where
 pub stepped-taken : {mode E : ℕ} {lock : Lock} {header : ℕ} → Taken mode E lock header → stepped mode E lock header ≡ record { refusal = 0; lock = lockStep (widthOf mode) (32 * E) lock (headerRead header) }
 unfolding stepped
 stepped-taken t = simp (not-refused _ _ _ _ t)
+
+-- it returns a state that the next call takes
+pub accepted-after : {mode E : ℕ} {lock : Lock} {header : ℕ} → Taken mode E lock header → accepted (widthOf mode) (32 * E) (stepped mode E lock header .lock) ≡ true
+accepted-after {mode} {E} {lock} {header} t =
+    subst (λ (x : Lock). accepted (widthOf mode) (32 * E) x ≡ true) (sym (ap (λ (x : Stepped). x .lock) (stepped-taken t)))
+    (accepted-step (widthOf mode) (32 * E) lock (headerRead header) (omega (arith, extent-within E (t .extent) .0)) (t .state))
+
+pub taken-next : {mode E : ℕ} {lock : Lock} {header : ℕ} → Taken mode E lock header → (next : ℕ) → next ≤ 3 → Taken mode E (stepped mode E lock header .lock) next
+taken-next t next h = record { of-mode = t .of-mode; extent = t .extent; state = accepted-after t; value = h }

@@ -3,13 +3,11 @@
 use mathlib.Core.Path.{_≡_, refl, sym, ap, subst, _∙_}
 use mathlib.Core.Bool.{Bool, true, false, _&&_, _||_, true≢false}
 use Prim.Native.Nat.{ℕ, _-_, _*_, _≤_}
-use native.Mathlib.Omega.{arith}
 use borrow.Author.Tests.{eq-eqb, ne-eqb}
 use lib.Dec.{eqb}
 use Rattle.bits.proofs.Choice.{parts-true}
 use Rattle.frame.specs.declared.headers.Header.{Header}
 use Rattle.frame.specs.Headers.{headerRead}
-use Rattle.frame.proofs.Rows.{extent-within}
 use Rattle.lock.specs.ExtendedTable.{withHeader, matches, following, moved, extendedStep}
 use Rattle.lock.specs.Table.{lockStep}
 use Rattle.lock.specs.Ranges.{phaseInRange, extendedInRange, isHunting, isFresh, accepted}
@@ -21,7 +19,7 @@ use Rattle.lock.specs.declared.Lock.{Lock}
 use Rattle.lock.specs.declared.Stepped.{Stepped}
 use Rattle.lock.proofs.ExtendedRows.{step-by}
 use Rattle.lock.proofs.ExtendedRange.{FollowingIn, following-range, phase-range}
-use Rattle.lock.proofs.Accepted.{accepted-parts, accepted-step, Taken, taken, stepped-taken}
+use Rattle.lock.proofs.Accepted.{accepted-parts, Taken, taken, stepped-taken, accepted-after, taken-next}
 
 -- a state that is accepted while following
 following-in : (period : ℕ) (x : ExtendedLock) → extendedInRange period x ≡ true → x .phase ≡ Following → FollowingIn period x
@@ -62,18 +60,12 @@ module _ (mode E : ℕ) (lock : Lock) (header : ℕ) (z : stepped mode E lock he
   returned : stepped mode E lock header .lock ≡ lockStep (widthOf mode) (32 * E) lock (headerRead header)
   returned = ap (λ (x : Stepped). x .lock) (stepped-taken is-taken)
 
-  accepted-after : accepted (widthOf mode) (32 * E) (stepped mode E lock header .lock) ≡ true
-  accepted-after =
-      subst (λ (x : Lock). accepted (widthOf mode) (32 * E) x ≡ true) (sym returned)
-      (accepted-step (widthOf mode) (32 * E) lock (headerRead header) (omega (arith, extent-within E (is-taken .extent) .0)) (is-taken .state))
-
   pub goes-on : (next : ℕ) → next ≤ 3 → stepped mode E (stepped mode E lock header .lock) next .refusal ≡ 0
-  goes-on next h =
-      ap (λ (x : Stepped). x .refusal) (stepped-taken (record { of-mode = is-taken .of-mode; extent = is-taken .extent; state = accepted-after; value = h }))
+  goes-on next h = ap (λ (x : Stepped). x .refusal) (stepped-taken (taken-next is-taken next h))
 
   pub stays-apart : stepped mode E lock header .lock .extended .phase ≡ Following
       → stepped mode E lock header .lock .extended .kept ≡ stepped mode E lock header .lock .extended .next → ⊥
-  stays-apart f = following-in (32 * E) _ (accepted-parts _ _ _ accepted-after .extended) f .apart
+  stays-apart f = following-in (32 * E) _ (accepted-parts _ _ _ (accepted-after is-taken) .extended) f .apart
 
   pub kept-followed : lock .extended .phase ≡ Following → lock .extended .next ≡ 1 → (lock .extended .kept ≡ 0 → ⊥)
       → matches (withHeader (lock .extended) (headerRead header)) ≡ false → stepped mode E lock header .lock .header .locked ≡ true

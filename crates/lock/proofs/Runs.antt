@@ -11,15 +11,13 @@ use Rattle.bits.specs.Order.{listFrom}
 use Rattle.bits.proofs.Lists.{list-none, list-one, list-append, list-ext}
 use Rattle.frame.specs.Headers.{headerRead}
 use Rattle.frame.specs.Modes.{known, row, extentFits}
-use Rattle.frame.proofs.Rows.{extent-within}
 use Rattle.frame.proofs.Sizes.{width-some}
 use Rattle.lock.specs.Table.{fresh, lockStep}
-use Rattle.lock.specs.Ranges.{accepted}
 use Rattle.lock.specs.Refusals.{widthOf, stepped}
 use Rattle.lock.specs.Run.{after, stateAfter}
 use Rattle.lock.specs.declared.Lock.{Lock}
 use Rattle.lock.specs.declared.Stepped.{Stepped}
-use Rattle.lock.proofs.Accepted.{accepted-step, accepted-fresh, Taken, stepped-taken}
+use Rattle.lock.proofs.Accepted.{accepted-fresh, Taken, stepped-taken, taken-next}
 
 pub after-append : (mode E : ℕ) (lock : Lock) (a b : List ℕ) → after mode E lock (a ++ b) ≡ after mode E (after mode E lock a) b
 unfolding after
@@ -56,18 +54,12 @@ some-width : (mode : ℕ) → 0 < widthOf mode
 some-width mode = width-some (row mode .gap)
 
 module _ (mode E : ℕ) (headers : ℕ → ℕ) (of-mode : known mode ≡ true) (extent : extentFits E ≡ true) (values : (n : ℕ) → headers n ≤ 3) where
-  -- a run from fresh stays with accepted states
-  state-accepted : (n : ℕ) → accepted (widthOf mode) (32 * E) (stateAfter mode E headers n) ≡ true
-  state-accepted zero =
-      subst (λ (x : Lock). accepted (widthOf mode) (32 * E) x ≡ true) (sym (state-none mode E headers)) (accepted-fresh (widthOf mode) (32 * E) (some-width mode))
-  state-accepted (suc n) =
-      subst (λ (x : Lock). accepted (widthOf mode) (32 * E) x ≡ true)
-      (sym (state-next mode E headers n (record { of-mode = of-mode; extent = extent; state = state-accepted n; value = values n })))
-      (accepted-step (widthOf mode) (32 * E) (stateAfter mode E headers n) (headerRead (headers n)) (omega (arith, extent-within E extent .0)) (state-accepted n))
-
-  -- and every step of it is taken
+  -- every step of a run from fresh is taken
   pub state-taken : (n : ℕ) → Taken mode E (stateAfter mode E headers n) (headers n)
-  state-taken n = record { of-mode = of-mode; extent = extent; state = state-accepted n; value = values n }
+  state-taken zero =
+      subst (λ (x : Lock). Taken mode E x (headers 0)) (sym (state-none mode E headers))
+      (record { of-mode = of-mode; extent = extent; state = accepted-fresh (widthOf mode) (32 * E) (some-width mode); value = values 0 })
+  state-taken (suc n) = subst (λ (x : Lock). Taken mode E x (headers (suc n))) (sym (state-suc mode E headers n)) (taken-next (state-taken n) (headers (suc n)) (values (suc n)))
 
   pub never-refused : (n : ℕ) → stepped mode E (stateAfter mode E headers n) (headers n) .refusal ≡ 0
   never-refused n = ap (λ (x : Stepped). x .refusal) (stepped-taken (state-taken n))
