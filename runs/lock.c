@@ -358,7 +358,7 @@ static size unlike_repeated(void) {
 }
 
 /* Whether the locks, begun at one block and first held at another, are held there at the lane's end too: no look was missed, and the
-   next one is so many periods on. */
+   next one is whole periods from there. */
 static int held_to_the_end(u32 e, size from, size block) {
     size blocks = BLOCKS * REPEATED;
     locks state = zaytulobe_fresh_lock();
