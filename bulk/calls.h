@@ -6,8 +6,12 @@
 
 enum { BEFORE = 165 };
 
-static const u8 ANY_MODES[16] = {0, 0, 0, 0, 1, 1, 1, 2, 2, 2, 2, 3, 3, 3, 4, 255};
+static const u8 ANY_MODES[24] = {0, 0, 0, 0, 1, 1, 1, 2, 2, 2, 2, 3, 3, 3, 4, 4, 4, 4, 4, 5, 5, 5, 6, 255};
 static const u32 EXTENTS[8] = {1, 2, 3, 4, 256, 255, 257, 0};
+
+static u8 draw_any_mode(void) {
+    return ANY_MODES[draw(24)];
+}
 
 /* With a mode that there isn't, all else is drawn as with this one. */
 static u8 drawn_as(u8 mode) {
@@ -42,11 +46,13 @@ static size draw_parts(u8 *octets, size part, size count) {
 }
 
 static u32 draw_parity(u8 as) {
+    static const u8 widths[MODES] = {12, 26, 12, 26, 3, 0};
+    u32 past = 1U << widths[as];
     if (!has_fec(as))
-        return or_more((u32)draw(1 << 12), 1 << 12);
+        return or_more((u32)draw(past), past);
     u32 parity = (u32)draw(1 << 13);
     parity = parity << 13 | (u32)draw(1 << 13);
-    return or_more(parity, 1 << 26);
+    return or_more(parity, past);
 }
 
 static u32 draw_fill(u8 as) {
@@ -75,7 +81,7 @@ static size draw_commands(u8 as, size count) {
 }
 
 static void send_call(u64 seed) {
-    u8 mode = ANY_MODES[draw(16)], as = drawn_as(mode);
+    u8 mode = draw_any_mode(), as = drawn_as(mode);
     u32 e = EXTENTS[draw(8)];
     struct zaytulobe_sender state = draw_sender(as, e);
     size count = draw_count(as), whole = lane_octets(as) * count;
@@ -96,6 +102,12 @@ static u8 draw_invalid_count(void) {
     return draw(4) == 0 ? edges[draw(4)] : any;
 }
 
+static u16 draw_own(u8 as) {
+    static const u16 edges[5] = {0, 1, 511, 512, 65535};
+    u16 most = ZAYTULOBE_MOST_OWN(as), any = most == 0 ? 0 : (u16)draw(most + 1U);
+    return draw(8) == 0 ? edges[draw(5)] : any;
+}
+
 static struct zaytulobe_receiver draw_any_receiver(u8 as) {
     static const u8 waits[8] = {0, 0, 0, 1, 1, 1, 1, 1};
     struct zaytulobe_receiver state;
@@ -104,10 +116,12 @@ static struct zaytulobe_receiver draw_any_receiver(u8 as) {
     u32 trusted = (u32)draw(2);
     state.trusted = (u8)or_rather(trusted, 2);
     state.history = draw_history();
-    u32 command = has_fec(as) ? 0 : (u32)draw(2 * ZAYTULOBE_COMMAND_FLAG);
-    state.command = or_more(command, has_fec(as) ? 1 : 2 * ZAYTULOBE_COMMAND_FLAG);
+    u32 past = has_fec(as) ? 1 : 2 * ZAYTULOBE_COMMAND_FLAG(as);
+    u32 command = has_fec(as) ? 0 : (u32)draw(past);
+    state.command = or_more(command, past);
     draw_octets(state.octets, USER_OCTETS);
     state.invalid = draw_invalid_count();
+    state.own = draw_own(as);
     return state;
 }
 
@@ -123,6 +137,7 @@ static struct zaytulobe_receiver draw_receiver(u8 as) {
     case 3: none.trusted = any.trusted; break;
     case 4: for (int k = 0; k < USER_OCTETS; k++) none.octets[k] = any.octets[k]; break;
     case 5: none.invalid = any.invalid; break;
+    case 6: none.own = any.own; break;
     }
     return none;
 }
@@ -165,7 +180,7 @@ static u64 lent_digest(const size *rooms) {
 
 static void receive_call(u64 seed) {
     size rooms[LENT];
-    u8 mode = ANY_MODES[draw(16)], as = drawn_as(mode);
+    u8 mode = draw_any_mode(), as = drawn_as(mode);
     struct zaytulobe_receiver state = draw_receiver(as);
     size count = draw_count(as);
     size lane_length = draw_parts(lane, lane_octets(as), count);
@@ -173,8 +188,9 @@ static void receive_call(u64 seed) {
     struct zaytulobe_received received = zaytulobe_receive(mode, state, lane, lane_length, octets, rooms[0], statuses, rooms[1],
         got_commands, rooms[2], places, rooms[3], patterns, rooms[4], invalid, rooms[5]);
     state = received.state;
-    printf("%lu receive %d %lu %d %lu %d %u %d %016lx %016lx\n", seed, received.refusal, received.count, state.waiting,
-        state.history, state.trusted, state.command, state.invalid, digest_of(state.octets, USER_OCTETS), lent_digest(rooms));
+    printf("%lu receive %d %lu %d %lu %d %u %d %d %016lx %016lx\n", seed, received.refusal, received.count, state.waiting,
+        state.history, state.trusted, state.command, state.invalid, state.own, digest_of(state.octets, USER_OCTETS),
+        lent_digest(rooms));
 }
 
 static u32 draw_headers(u32 seen) {
@@ -246,7 +262,7 @@ static void print_lock(struct zaytulobe_lock lock) {
 }
 
 static void step_call(u64 seed) {
-    u8 mode = ANY_MODES[draw(16)];
+    u8 mode = draw_any_mode();
     u32 e = EXTENTS[draw(8)];
     struct zaytulobe_lock lock = draw_lock(drawn_as(mode), e);
     u32 header = (u32)draw(4);

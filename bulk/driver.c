@@ -70,15 +70,16 @@ static u64 received_digest(const struct zaytulobe_receiver *state, size count) {
     size rooms[LENT] = {USER_OCTETS * count, count, count, count, count, count};
     u64 digest = with_octets(lent_digest(rooms), state->octets, USER_OCTETS);
     digest = with_number(with_number(digest, state->history), state->command);
-    return with_octet(with_octet(with_octet(digest, state->waiting), state->trusted), state->invalid);
+    digest = with_octet(with_octet(with_octet(digest, state->waiting), state->trusted), state->invalid);
+    return with_number(digest, state->own);
 }
 
 static void print_received(const struct zaytulobe_receiver *state, size count) {
     for (size k = 0; k < count; k++)
         printf(" %d/%d/%d/%u/%d", statuses[k], places[k], patterns[k], got_commands[k], invalid[k]);
     struct zaytulobe_run run = zaytulobe_longest_run(octets, USER_OCTETS * count, statuses, count);
-    printf(" %016lx %d %lu %d %u %d %016lx %lu %lu", digest_of(octets, USER_OCTETS * count), state->waiting, state->history,
-        state->trusted, state->command, state->invalid, digest_of(state->octets, USER_OCTETS), run.start, run.count);
+    printf(" %016lx %d %lu %d %u %d %d %016lx %lu %lu", digest_of(octets, USER_OCTETS * count), state->waiting, state->history,
+        state->trusted, state->command, state->invalid, state->own, digest_of(state->octets, USER_OCTETS), run.start, run.count);
 }
 
 static void damaged_line(u64 seed) {
@@ -216,7 +217,7 @@ static size draw_capture(void) {
     case 3: place = draw(HEAD); capture[place] = (u8)draw(256); break;
     case 4: length = draw(length + 1); break;
     case 5: place = length; length += 1 + draw(300); draw_octets(capture + place, length - place); break;
-    case 7: capture[4] = (u8)draw(5); break;
+    case 7: capture[4] = (u8)draw(MODES + 1); break;
     }
     return length;
 }

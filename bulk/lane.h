@@ -24,7 +24,7 @@ static void draw_input(size multiblocks) {
     drawn.lane_length = lane_octets(drawn.mode) * multiblocks;
     draw_octets(user, USER_OCTETS * multiblocks);
     for (size k = 0; k < multiblocks; k++)
-        commands[k] = has_fec(drawn.mode) ? 0 : (u32)draw(ZAYTULOBE_MOST_COMMAND(drawn.mode) + 1);
+        commands[k] = has_fec(drawn.mode) ? 0 : (u32)draw(ZAYTULOBE_COMMAND_FLAG(drawn.mode));
 }
 
 /* The lane that a fresh sender makes of the input in one call; of zeros if it is refused, which then shows. */
@@ -63,16 +63,30 @@ static void draw_bits(size first, size last) {
             flip(bit);
 }
 
-static void draw_burst(size at_most, size lane_bits) {
-    size length = 1 + draw(at_most);
+static void draw_burst_of(size length, size lane_bits) {
     size first = draw(lane_bits - length + 1);
     draw_bits(first, first + length - 1);
 }
 
-static void draw_far_bursts(size at_most, size lane_bits) {
+static void draw_burst(size at_most, size lane_bits) {
+    size length = 1 + draw(at_most);
+    draw_burst_of(length, lane_bits);
+}
+
+/* Bursts of at most so many lane bits are found, or mended too; in mode 5, where none is, a number all the same. */
+static size burst_limit(void) {
+    switch (drawn.mode) {
+    case FEC:
+    case FEC_80: return 9;
+    case CRC3: return 3;
+    default: return 12;
+    }
+}
+
+static void draw_far_bursts(size lane_bits) {
     size bits = multiblock_bits(drawn.mode), clear_bits = 2 * bits, first = draw(clear_bits);
     for (;;) {
-        size last = first + draw(at_most);
+        size last = first + draw(burst_limit());
         if (last >= lane_bits)
             return;
         draw_bits(first, last);
@@ -123,9 +137,15 @@ static void draw_octet(void) {
     lane[place] = (u8)draw(256);
 }
 
-/* Whether the header of a block carries parity: Tables 41 and 45. */
+/* Whether the header of a block carries parity: Tables 41, 43, 45 and 47. */
 static int carries_parity(size block) {
-    return has_fec(drawn.mode) ? block < 27 && block != 22 : block < 16 && block % 4 != 3;
+    switch (drawn.mode) {
+    case FEC:
+    case FEC_80: return block < 27 && block != 22;
+    case CRC3: return block % 8 < 3;
+    case COMMAND: return 0;
+    default: return block < 16 && block % 4 != 3;
+    }
 }
 
 static void flip_parities(void) {
@@ -155,19 +175,19 @@ static int every_one(size noise) {
 }
 
 static void damage(void) {
-    size limit = has_fec(drawn.mode) ? 9 : 12, lane_bits = 8 * drawn.lane_length;
-    size blocks = BLOCKS * drawn.multiblocks;
+    size lane_bits = 8 * drawn.lane_length, blocks = BLOCKS * drawn.multiblocks;
     switch (drawn.kind) {
-    case 1: draw_burst(limit, lane_bits); break;
+    case 1: draw_burst(burst_limit(), lane_bits); break;
     case 2: for (size left = 1 + draw(4); left > 0; left--) draw_burst(LONG_BURST, lane_bits); break;
     case 3: for (size left = 1 + draw(8); left > 0; left--) draw_header(blocks); break;
     case 4: for (size left = 1 + draw(64); left > 0; left--) draw_octet(); break;
     case 5: flip_parities(); break;
-    case 6: draw_far_bursts(limit, lane_bits); break;
+    case 6: draw_far_bursts(lane_bits); break;
     case 7: draw_octets(lane, drawn.lane_length); break;
     case 8: for (size left = 1 + draw(3); left > 0; left--) draw_stretch(blocks); break;
     case 9: draw_noise(blocks); break;
     case 10: flip_fill(one_in, 1 + draw(8)); break;
+    case 11: for (size left = 1 + draw(4); left > 0; left--) draw_burst_of(burst_limit() + 1, lane_bits); break;
     }
 }
 
@@ -175,7 +195,7 @@ static void draw_damaged(void) {
     draw_settings();
     draw_input(2 + draw(6));
     send_input();
-    drawn.kind = draw(11);
+    drawn.kind = draw(12);
     damage();
 }
 

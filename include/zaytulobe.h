@@ -1,7 +1,8 @@
 /*
- * One lane of the 64B/66B and 64B/80B link layers of JESD204C, with CRC-12 or FEC sync words: sender, receiver, lock machines,
- * longest run and listing. The functions are proved: for every value of every argument each gives the one answer that its
- * contract states (crates/zaytulobe/src, docs/CONTRACTS.md). For x86-64 Linux; for C from C11 on, and C++ from C++11 on.
+ * One lane of the 64B/66B and 64B/80B link layers of JESD204C, with the sync words of CRC-12, FEC, CRC-3 or the stand-alone
+ * command channel: sender, receiver, lock machines, longest run and listing. The functions are proved: for every value of every
+ * argument each gives the one answer that its contract states (crates/zaytulobe/src, docs/CONTRACTS.md). For x86-64 Linux; for C
+ * from C11 on, and C++ from C++11 on.
  *
  * That this header is the library's is checked: the assertions at its end say where each field stands, to whoever compiles it,
  * and the gate runs C programs that show the library to read each field there (runs/layout.c) and to have these constants
@@ -34,12 +35,14 @@ enum zaytulobe_mode {
     ZAYTULOBE_CRC12 = 0,    /* CRC-12, 66 bits */
     ZAYTULOBE_FEC = 1,      /* FEC, 66 bits */
     ZAYTULOBE_CRC12_80 = 2, /* CRC-12, 80 bits */
-    ZAYTULOBE_FEC_80 = 3    /* FEC, 80 bits */
+    ZAYTULOBE_FEC_80 = 3,   /* FEC, 80 bits */
+    ZAYTULOBE_CRC3 = 4,     /* CRC-3, 66 bits */
+    ZAYTULOBE_COMMAND = 5   /* the stand-alone command channel, without parity, 66 bits */
 };
 
 enum zaytulobe_refusal {
     ZAYTULOBE_ACCEPTED = 0,
-    ZAYTULOBE_REFUSED_MODE = 1,     /* the mode is above 3 */
+    ZAYTULOBE_REFUSED_MODE = 1,     /* the mode is above 5 */
     ZAYTULOBE_REFUSED_E = 2,        /* E is outside 1 to 256 */
     ZAYTULOBE_REFUSED_STATE = 3,    /* a field of the state is out of range */
     ZAYTULOBE_REFUSED_LENGTH = 4,   /* user octets are no multiple of 256, lane octets none of 264, or of 320 in modes 2 and 3;
@@ -51,9 +54,10 @@ enum zaytulobe_refusal {
     ZAYTULOBE_REFUSED_HEADER = 9    /* a header value is above 3 */
 };
 
-/* The status of a released multiblock is one of the first three, with the fourth added after an untrusted history. */
+/* The status of a released multiblock is one of the first three, with the fourth added after an untrusted history. In mode 5,
+   which has no parity that could disagree, it is 0 or 4, and the octets are unchecked. */
 enum zaytulobe_status {
-    ZAYTULOBE_AGREES = 0,   /* its parity agrees */
+    ZAYTULOBE_AGREES = 0,   /* its parity agrees; with CRC-3, that of each of its four groups of eight blocks */
     ZAYTULOBE_REPAIRED = 1, /* a burst was flipped back, and now its parity agrees */
     ZAYTULOBE_FAILED = 2,   /* its parity disagrees, and nothing was repaired */
     ZAYTULOBE_UNTRUSTED = 4 /* nothing came before it, or the one before had failed */
@@ -78,12 +82,14 @@ enum zaytulobe_phase {
 #define ZAYTULOBE_BLOCK_BITS(mode) (ZAYTULOBE_HAS_80(mode) ? 80 : 66)
 #define ZAYTULOBE_LANE_OCTETS(mode) (ZAYTULOBE_BLOCKS * ZAYTULOBE_BLOCK_BITS(mode) / 8)
 
-/* By mode: the most multiblocks that one call of the sender or the receiver takes; the highest command that is sent; the highest
-   fill of a sender's state. A command that is received has the flag added if one of its headers was invalid. */
+/* By mode: the most multiblocks that one call of the sender or the receiver takes; the highest command that is sent: 7 bits, 19 in
+   mode 5, none with FEC; the flag that a command which is received has added if one of its headers was invalid; the highest fill of
+   a sender's state; the highest own parity of a receiver's. */
 #define ZAYTULOBE_MOST_MULTIBLOCKS(mode) (ZAYTULOBE_HAS_80(mode) ? 200 : 240)
-#define ZAYTULOBE_MOST_COMMAND(mode) (ZAYTULOBE_HAS_FEC(mode) ? 0 : 127)
+#define ZAYTULOBE_MOST_COMMAND(mode) (ZAYTULOBE_HAS_FEC(mode) ? 0 : (int)(mode) == ZAYTULOBE_COMMAND ? 524287 : 127)
+#define ZAYTULOBE_COMMAND_FLAG(mode) (ZAYTULOBE_MOST_COMMAND(mode) + 1)
 #define ZAYTULOBE_MOST_FILL(mode) (ZAYTULOBE_HAS_80(mode) ? 131070 : 0)
-#define ZAYTULOBE_COMMAND_FLAG 128
+#define ZAYTULOBE_MOST_OWN(mode) ((int)(mode) == ZAYTULOBE_CRC3 ? 511 : 0)
 
 /* E, the multiblocks of an extended multiblock. */
 #define ZAYTULOBE_LEAST_E 1
@@ -91,16 +97,17 @@ enum zaytulobe_phase {
 
 /* Octets of a capture before those of its lane; by its mode, of the longest capture that is listed, 63,371 or 64,011, and so of the
    longest in any mode; and of a text: one that is lent so much is never refused by 7. A line for a release has at most 15 octets.
-   In modes 0 and 1 the first line has at most 18, and 239 are released at most: 18 + 239 * 15 = 3,603. In modes 2 and 3 it is
+   In blocks of 66 bits the first line has at most 18, and 239 are released at most: 18 + 239 * 15 = 3,603. In modes 2 and 3 it is
    21 + 199 * 15 = 3,006. */
 #define ZAYTULOBE_CAPTURE_HEAD 11
 #define ZAYTULOBE_LONGEST_CAPTURE(mode) (ZAYTULOBE_CAPTURE_HEAD + ZAYTULOBE_LANE_OCTETS(mode) * ZAYTULOBE_MOST_MULTIBLOCKS(mode))
 #define ZAYTULOBE_LONGEST_OF_ALL ZAYTULOBE_LONGEST_CAPTURE(ZAYTULOBE_FEC_80)
 #define ZAYTULOBE_LONGEST_TEXT 3603
 
-/* The last 58 bits sent, the latest in bit 0; the parity of the last multiblock; the number of the next multiblock in its
-   extended multiblock; the register of 17 bits that the next block's fill bits come from, its latest bit in bit 0, and 0 in
-   modes 0 and 1. */
+/* The last 58 bits sent, the latest in bit 0; the parity that goes with the next sync word: that of the last multiblock, 12 bits
+   with CRC-12 and 26 with FEC; in mode 4 that of its last eight blocks, 3 bits; 0 in mode 5; the number of the next multiblock in
+   its extended multiblock; the register of 17 bits that the next block's fill bits come from, its latest bit in bit 0, and 0 in all
+   modes but 2 and 3. */
 struct zaytulobe_sender {
     zaytulobe_u64 history;
     zaytulobe_u32 parity;
@@ -117,7 +124,8 @@ struct zaytulobe_sent {
 
 /* The history before the multiblock that waits; its command, with the flag added if one of its headers was invalid; whether one
    waits, 0 or 1; whether the history is trusted, 0 or 1; its scrambled octets; how many of its 32 headers were invalid (00 or
-   11), 0 to 32, and 0 if none waits. */
+   11), 0 to 32, and 0 if none waits; the parity that came with its own sync word: in mode 4 that of blocks 0 to 7, 8 to 15 and 16
+   to 23, three bits each, the first highest; 0 in every other mode, and if none waits. */
 struct zaytulobe_receiver {
     zaytulobe_u64 history;
     zaytulobe_u32 command;
@@ -125,6 +133,7 @@ struct zaytulobe_receiver {
     zaytulobe_u8 trusted;
     zaytulobe_u8 octets[ZAYTULOBE_USER_OCTETS];
     zaytulobe_u8 invalid;
+    zaytulobe_u16 own;
 };
 
 /* A refusal, or 0 with the multiblocks released; the state for the next call. */
@@ -196,10 +205,10 @@ struct zaytulobe_sent zaytulobe_send(
 struct zaytulobe_receiver zaytulobe_fresh_receiver(void);
 
 /* Receives the multiblocks of the lane, 264 octets each, or 320 in modes 2 and 3, whose fill bits are ignored. A multiblock is
-   released when the next has come: release k of this call writes 256 octets from 256 k on, and place k of each list: its status;
-   its command; the place and pattern of the burst that was flipped back, or 0 and 0; and how many of its own 32 headers were
-   invalid, 0 to 32. All else keeps its values. The state has the number of the one that waits then. Refused by 1, 3, 4, 5
-   or 7. */
+   released when the next has come, in mode 5 too: release k of this call writes 256 octets from 256 k on, and place k of each
+   list: its status; its command; the place and pattern of the burst that was flipped back, or 0 and 0; and how many of its own 32
+   headers were invalid, 0 to 32. All else keeps its values. The state has the number of the one that waits then. Refused by 1, 3,
+   4, 5 or 7. */
 struct zaytulobe_received zaytulobe_receive(
     zaytulobe_u8 mode, struct zaytulobe_receiver state,
     const zaytulobe_u8 *lane, zaytulobe_size lane_length,
@@ -258,18 +267,19 @@ ZAYTULOBE_FIELD(sent, refusal, 0, 1);
 ZAYTULOBE_FIELD(sent, count, 8, 8);
 ZAYTULOBE_FIELD(sent, state, 16, 24);
 
-ZAYTULOBE_STRUCT(receiver, 272);
+ZAYTULOBE_STRUCT(receiver, 280);
 ZAYTULOBE_FIELD(receiver, history, 0, 8);
 ZAYTULOBE_FIELD(receiver, command, 8, 4);
 ZAYTULOBE_FIELD(receiver, waiting, 12, 1);
 ZAYTULOBE_FIELD(receiver, trusted, 13, 1);
 ZAYTULOBE_FIELD(receiver, octets, 14, 256);
 ZAYTULOBE_FIELD(receiver, invalid, 270, 1);
+ZAYTULOBE_FIELD(receiver, own, 272, 2);
 
-ZAYTULOBE_STRUCT(received, 288);
+ZAYTULOBE_STRUCT(received, 296);
 ZAYTULOBE_FIELD(received, refusal, 0, 1);
 ZAYTULOBE_FIELD(received, count, 8, 8);
-ZAYTULOBE_FIELD(received, state, 16, 272);
+ZAYTULOBE_FIELD(received, state, 16, 280);
 
 ZAYTULOBE_STRUCT(run, 24);
 ZAYTULOBE_FIELD(run, refusal, 0, 1);

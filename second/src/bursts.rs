@@ -106,7 +106,7 @@ mod tests {
         let mut octets = [0; 256];
         octets[0] = 0x81;
         let burst = Burst { place: 0, pattern: 0x81 };
-        assert_eq!(sum(&burst.positions(), &position_remainders()), FEC.parity(&octets));
+        assert_eq!(sum(&burst.positions(), &position_remainders()), FEC.of_octets(&octets));
     }
 
     #[test]

@@ -3,21 +3,23 @@
 //! neither 0 nor 1 and a phase above 2 are out of range.
 //!
 //! Drawn: draw(4), which call of the four. Then, in order:
-//! mode = [0, 0, 0, 0, 1, 1, 1, 2, 2, 2, 2, 3, 3, 3, 4, 255][draw(16)] and E = [1, 2, 3, 4, 256, 255, 257, 0][draw(8)], where
-//! the call has them. With a mode that there isn't, all else is drawn as with mode 1.
+//! mode = [0, 0, 0, 0, 1, 1, 1, 2, 2, 2, 2, 3, 3, 3, 4, 4, 4, 4, 4, 5, 5, 5, 6, 255][draw(24)] and E = [1, 2, 3, 4, 256, 255,
+//! 257, 0][draw(8)], where the call has them. With a mode that there isn't, all else is drawn as with mode 1.
 //! A history: three draws, of 19, 20 and 19 bits, the first highest; rarely 2^58 more.
 //! A count of multiblocks: draw(4); but if draw(32), drawn first, is 0, 239 + draw(3), or 199 + draw(3) in modes 2 and 3.
 //!
-//! send: a history; a parity, draw(4096) in modes 0 and 2, in others two draws of 13 bits, the first highest; rarely 2^12, or
-//! 2^26, more; a number, draw(E), 0 for E 0; rarely E more; a fill, draw(2^17) in modes 2 and 3, in others 0, but if draw(8)
-//! is 0 then [0, 1, 131070, 131071, 131072, 4294967295][draw(6)]; a count; 256 user octets for each, rarely 1 + draw(255)
-//! more; a command for each, rarely one more, draw(128) each in modes 0 and 2, in others 0; rarely, if there is one, command
-//! draw(how many) becomes 128, or 1; a lane of 264 octets for each, or 320, and draw(16), rarely 1 less than for each.
+//! send: a history; a parity of w bits, w being 12 in modes 0 and 2, 3 in mode 4, 0 in mode 5 and 26 in others: draw(2^w), but
+//! of 26 bits two draws of 13 bits, the first highest; rarely 2^w more; a number, draw(E), 0 for E 0; rarely E more; a fill,
+//! draw(2^17) in modes 2 and 3, in others 0, but if draw(8) is 0 then [0, 1, 131070, 131071, 131072, 4294967295][draw(6)]; a
+//! count; 256 user octets for each, rarely 1 + draw(255) more; a command for each, rarely one more, draw(2^c) each of c bits,
+//! c being 7 in modes 0, 2 and 4 and 19 in mode 5, in others 0; rarely, if there is one, command draw(how many) becomes 2^c,
+//! in others 1; a lane of 264 octets for each, or 320, and draw(16), rarely 1 less than for each.
 //!
 //! receive: waiting = [0, 0, 0, 1, 1, 1, 1, 1][draw(8)], rarely 2; trusted = draw(2), rarely 2; a history; a command,
-//! draw(256) in modes 0 and 2, rarely 256 more, in others 0, rarely 1; 256 octets; invalid = draw(33), but if draw(4) is 0
-//! then [0, 32, 33, 255][draw(4)]. With nothing waiting, draw(12): 0 keeps all, 1 only the history, 2 the command, 3 trusted,
-//! 4 the octets, 5 invalid, others none; what isn't kept becomes 0. A count; 264 lane octets for each, rarely 1 + draw(263)
+//! draw(2^(c+1)) where there are commands, rarely 2^(c+1) more, in others 0, rarely 1; 256 octets; invalid = draw(33), but if
+//! draw(4) is 0 then [0, 32, 33, 255][draw(4)]; own = draw(512) in mode 4, in others 0, but if draw(8) is 0 then [0, 1, 511,
+//! 512, 65535][draw(5)]. With nothing waiting, draw(12): 0 keeps all, 1 only the history, 2 the command, 3 trusted, 4 the
+//! octets, 5 invalid, 6 own, others none; what isn't kept becomes 0. A count; 264 lane octets for each, rarely 1 + draw(263)
 //! more, or 320 and 1 + draw(319). Lent: 256 octets for each and draw(16), and five lists, one for each and draw(3); if
 //! draw(8) is 0, number draw(6) of these six is 1 less than for each.
 //!
@@ -35,9 +37,9 @@
 //! more, rarely 256 more. The octets are 0.
 //!
 //! Every number lent to be written is 165 before. Lines: `SEED send REFUSAL COUNT HISTORY PARITY NUMBER FILL DIGEST`, the
-//! digest of the lane; `SEED receive REFUSAL COUNT WAITING HISTORY TRUSTED COMMAND INVALID DIGEST DIGEST`, those of the state's octets
-//! and of all that was lent, commands, places and patterns as 8 octets each; `SEED step REFUSAL` and the fields of the state
-//! (locks.rs); `SEED longest REFUSAL START COUNT`.
+//! digest of the lane; `SEED receive REFUSAL COUNT WAITING HISTORY TRUSTED COMMAND INVALID OWN DIGEST DIGEST`, those of the
+//! state's octets and of all that was lent, commands, places and patterns as 8 octets each; `SEED step REFUSAL` and the
+//! fields of the state (locks.rs); `SEED longest REFUSAL START COUNT`.
 
 use crate::bits;
 use crate::digest::Digest;
@@ -48,9 +50,10 @@ use crate::mode::{is_extent, mode, row, Mode, BLOCKS, USER_OCTETS};
 use crate::receiver::{self, Lent, Receiver};
 use crate::sender::{self, Sender};
 
-const MODES: [u8; 16] = [0, 0, 0, 0, 1, 1, 1, 2, 2, 2, 2, 3, 3, 3, 4, 255];
+const MODES: [u8; 24] = [0, 0, 0, 0, 1, 1, 1, 2, 2, 2, 2, 3, 3, 3, 4, 4, 4, 4, 4, 5, 5, 5, 6, 255];
 const EXTENTS: [u32; 8] = [1, 2, 3, 4, 256, 255, 257, 0];
 const FILLS: [u32; 6] = [0, 1, 131_070, 131_071, 131_072, u32::MAX];
+const OWNS: [u16; 5] = [0, 1, 511, 512, u16::MAX];
 const BEFORE: u8 = 165;
 
 /// The row that is drawn by.
@@ -106,12 +109,11 @@ fn draw_parts(generator: &mut Generator, part: usize, count: usize) -> Vec<u8> {
 }
 
 fn draw_parity(generator: &mut Generator, mode: &Mode) -> u32 {
-    if mode.word.code.width() == 12 {
-        let parity = draw_number(generator, 4096);
-        return or_more(generator, parity, 1 << 12);
-    }
-    let parity = draw_number(generator, 1 << 13) << 13 | draw_number(generator, 1 << 13);
-    or_more(generator, parity, 1 << 26)
+    let parity = match mode.word.code.width() {
+        26 => draw_number(generator, 1 << 13) << 13 | draw_number(generator, 1 << 13),
+        width => draw_number(generator, 1 << width),
+    };
+    or_more(generator, parity, 1 << mode.word.code.width())
 }
 
 /// Any of 17 bits where there are fill bits, but often at the edge of its range or past that.
@@ -134,7 +136,7 @@ fn draw_state(generator: &mut Generator, mode: &Mode, e: u32) -> Sender {
 
 fn draw_commands(generator: &mut Generator, mode: &Mode, count: usize) -> Vec<u32> {
     let length = count + usize::from(generator.rarely());
-    let most = mode.word.highest_command;
+    let most = mode.word.highest_command();
     let command = |_| if most == 0 { 0 } else { draw_number(generator, most + 1) };
     let mut commands: Vec<u32> = (0..length).map(command).collect();
     if generator.rarely() && length > 0 {
@@ -169,6 +171,7 @@ struct Given {
     command: u32,
     octets: Vec<u8>,
     invalid: u8,
+    own: u16,
 }
 
 /// In range, but often at the edge of it or past that.
@@ -181,16 +184,28 @@ fn draw_invalid(generator: &mut Generator) -> u8 {
     }
 }
 
+/// Any of its bits where there are some, but often at the edge of its range or past that.
+fn draw_own(generator: &mut Generator, mode: &Mode) -> u16 {
+    let bits = mode.word.code.own_width();
+    let any = if bits == 0 { 0 } else { generator.draw(1 << bits) as u16 };
+    if generator.draw(8) == 0 {
+        generator.one_of(&OWNS)
+    } else {
+        any
+    }
+}
+
 impl Given {
     fn draw_any(generator: &mut Generator, mode: &Mode) -> Given {
         let waiting = or_rather(generator, &[0, 0, 0, 1, 1, 1, 1, 1], 2);
         let trusted = or_rather(generator, &[0, 1], 2);
         let history = draw_history(generator);
-        let has_commands = mode.word.highest_command > 0;
-        let command = if has_commands { draw_number(generator, 256) } else { 0 };
-        let command = or_more(generator, command, if has_commands { 256 } else { 1 });
+        let past = mode.word.highest_received() + 1;
+        let command = if past == 1 { 0 } else { draw_number(generator, past) };
+        let command = or_more(generator, command, past);
         let octets = generator.draw_octets(USER_OCTETS);
-        Given { waiting, trusted, history, command, octets, invalid: draw_invalid(generator) }
+        let invalid = draw_invalid(generator);
+        Given { waiting, trusted, history, command, octets, invalid, own: draw_own(generator, mode) }
     }
 
     fn draw(generator: &mut Generator, mode: &Mode) -> Given {
@@ -206,6 +221,7 @@ impl Given {
             3 => Given { trusted: any.trusted, ..none },
             4 => Given { octets: any.octets, ..none },
             5 => Given { invalid: any.invalid, ..none },
+            6 => Given { own: any.own, ..none },
             _ => none,
         }
     }
@@ -220,6 +236,7 @@ impl Given {
             trusted: self.trusted == 1,
             command: self.command,
             invalid: self.invalid,
+            own: self.own,
         };
         Some(state).filter(|_| self.waiting < 2 && self.trusted < 2)
     }
@@ -232,6 +249,7 @@ impl Given {
             command: state.command,
             octets: state.octets.to_vec(),
             invalid: state.invalid,
+            own: state.own,
         }
     }
 }
@@ -276,9 +294,9 @@ fn receive(generator: &mut Generator) -> String {
         }
         None => (if mode(number).is_some() { 3 } else { 1 }, 0, given),
     };
-    let Given { waiting, trusted, history, command, octets, invalid } = after;
+    let Given { waiting, trusted, history, command, octets, invalid, own } = after;
     let digests = [Digest::of(&octets), digest_of(&lent)].map(Digest::hexadecimal).join(" ");
-    format!("receive {refusal} {count} {waiting} {history} {trusted} {command} {invalid} {digests}")
+    format!("receive {refusal} {count} {waiting} {history} {trusted} {command} {invalid} {own} {digests}")
 }
 
 /// The fields of both locks, in the order of `Lock::numbers`.
@@ -399,12 +417,15 @@ pub fn line(seed: u64) -> String {
 mod tests {
     use super::call;
     use std::collections::HashMap;
+    use std::sync::LazyLock;
+
+    /// What the cases of these seeds print.
+    static LINES: LazyLock<Vec<String>> = LazyLock::new(|| (1..=12_000).map(call).collect());
 
     #[test]
     fn every_call_is_accepted_and_refused_by_each_number() {
         let mut seen: HashMap<(String, String), usize> = HashMap::new();
-        for seed in 1..=6000 {
-            let line = call(seed);
+        for line in LINES.iter() {
             let mut words = line.split(' ').map(str::to_string);
             *seen.entry((words.next().unwrap(), words.next().unwrap())).or_default() += 1;
         }
@@ -421,9 +442,8 @@ mod tests {
     /// A refused state comes back as it was given, and an accepted empty call's too: FILL is word 6 of the line.
     #[test]
     fn fills_are_refused_from_their_edge_on() {
-        let lines: Vec<String> = (1..=6000).map(call).collect();
         let count = |start: &str, fill: &str| {
-            let of_start = lines.iter().filter(|line| line.starts_with(start));
+            let of_start = LINES.iter().filter(|line| line.starts_with(start));
             of_start.filter(|line| line.split(' ').nth(6) == Some(fill)).count()
         };
         assert!(["1", "131070", "131071", "131072", "4294967295"].iter().all(|fill| count("send 3 0 ", fill) > 2));
@@ -434,8 +454,8 @@ mod tests {
     /// A refused state comes back as it was given: WAITING is word 3 of the line, INVALID word 7.
     #[test]
     fn numbers_of_invalid_headers_are_refused() {
-        let refused: Vec<String> = (1..=6000).map(call).filter(|line| line.starts_with("receive 3 ")).collect();
-        let given = |line: &String| {
+        let refused: Vec<&String> = LINES.iter().filter(|line| line.starts_with("receive 3 ")).collect();
+        let given = |line: &&String| {
             let words: Vec<&str> = line.split(' ').collect();
             (words[3] == "0", words[7].parse::<u8>().unwrap())
         };
@@ -444,13 +464,39 @@ mod tests {
         assert!(count(|nothing_waits, invalid| nothing_waits && (1..=32).contains(&invalid)) > 2);
     }
 
+    /// A refused state comes back as it was given, and an accepted empty call's too: COUNT is word 2 of the line, OWN word 8.
+    #[test]
+    fn own_parities_are_refused_from_their_edge_on() {
+        let count = |start: &str, own: &str| {
+            let of_start = LINES.iter().filter(|line| line.starts_with(start));
+            of_start.filter(|line| line.split(' ').nth(8) == Some(own)).count()
+        };
+        assert!(["1", "511", "512", "65535"].iter().all(|own| count("receive 3 0 ", own) > 2));
+        assert!(["1", "511"].iter().all(|own| count("receive 0 0 ", own) > 0));
+        assert!(["512", "65535"].iter().all(|own| count("receive 0 ", own) == 0));
+    }
+
+    /// A refused state comes back as it was given: PARITY is word 4 of the line of a sender, COMMAND word 6 of a receiver's.
+    #[test]
+    fn parities_and_commands_reach_the_edges_of_modes_4_and_5() {
+        let count = |start: &str, word: usize, holds: fn(u32) -> bool| {
+            let of_start = LINES.iter().filter(|line| line.starts_with(start));
+            of_start
+                .filter(|line| line.split(' ').nth(word).is_some_and(|number| number.parse().is_ok_and(holds)))
+                .count()
+        };
+        assert!(count("send 3 0 ", 4, |parity| (8..16).contains(&parity)) > 2);
+        assert!(count("send 3 0 ", 4, |parity| parity == 1) > 0);
+        assert!(count("receive 3 0 ", 6, |command| command >= 1 << 20) > 2);
+        assert!(count("receive 0 ", 6, |command| (1 << 19..1 << 20).contains(&command)) > 9);
+    }
+
     /// A refused state comes back as it was given: PHASE is word 6 of the line, NEXT word 11, KEPT word 12. Of E nothing is
     /// printed, so that of those above 32 E only the ones above that of 256 are counted.
     #[test]
     fn kept_phases_are_refused_from_their_edges_on() {
-        let lines: Vec<String> = (1..=6000).map(call).collect();
         let count = |start: &str, holds: fn(u32, u32, u32) -> bool| {
-            let of_start = lines.iter().filter(|line| line.starts_with(start));
+            let of_start = LINES.iter().filter(|line| line.starts_with(start));
             let numbers =
                 of_start.map(|line| line.split(' ').map(|word| word.parse().unwrap_or(0)).collect::<Vec<u32>>());
             numbers.filter(|words| holds(words[6], words[11], words[12])).count()

@@ -5,16 +5,20 @@ use crate::cases::Input;
 use crate::damaged::flipped;
 use crate::frame::{fill_places, with_headers};
 use crate::generator::Generator;
-use crate::mode::{row, BLOCKS, DATA_BITS};
+use crate::mode::{row, BLOCKS, DATA_BITS, MODES};
+use crate::sync::Parity;
 
 const CRC12: u8 = 0;
 const FEC: u8 = 1;
 const CRC12_80: u8 = 2;
 const FEC_80: u8 = 3;
+const CRC3: u8 = 4;
+const COMMAND: u8 = 5;
 
-/// A mode that there isn't.
-const NO_MODE: u8 = 4;
+/// The first number that is no mode.
+const NO_MODE: u8 = MODES as u8;
 
+#[derive(Clone)]
 pub struct Case {
     pub name: String,
     pub capture: Vec<u8>,
@@ -50,25 +54,29 @@ fn lane(seed: u64, mode: u8, e: u16, multiblocks: usize) -> Vec<u8> {
     Input::draw(&mut Generator::seeded(seed), mode, u32::from(e), multiblocks).lane()
 }
 
-/// The first lane bit of the block of a multiblock that carries a bit of the parity, 0 the first that is sent.
+/// The first lane bit of the header that carries a bit of a multiblock's parity, 0 the highest: one of its own headers, or of
+/// the next multiblock's.
 fn parity_place(number: u8, multiblock: usize, bit: usize) -> usize {
-    let mode = row(number);
-    let wanted = (mode.word.code.width() - 1 - bit) as u32;
+    let (mode, code) = (row(number), row(number).word.code);
+    let (wanted, carrier) = match code.own_width().checked_sub(bit + 1) {
+        Some(own) => (Parity::Own(own as u32), multiblock),
+        None => (Parity::Before((code.parity_width() - 1 - bit) as u32), multiblock + 1),
+    };
     let carries = |block: &usize| mode.word.layout.parity_bit(*block) == Some(wanted);
     let block = (0..BLOCKS).find(carries).expect("every bit of the parity is sent");
-    mode.multiblock_bits() * multiblock + mode.block_bits() * block
+    mode.multiblock_bits() * carrier + mode.block_bits() * block
 }
 
-/// The lane bits of a position of a multiblock's codeword: one of data, or the two of a header in the next multiblock.
+/// The lane bits of a position of a multiblock, its data and its parity after them: one of data, or the two of a header.
 fn places(mode: u8, multiblock: usize, position: usize) -> Vec<usize> {
     if position < DATA_BITS {
         return vec![row(mode).multiblock_bits() * multiblock + row(mode).data_place(position)];
     }
-    let place = parity_place(mode, multiblock + 1, position - DATA_BITS);
+    let place = parity_place(mode, multiblock, position - DATA_BITS);
     vec![place, place + 1]
 }
 
-/// The lane bits of the burst of that place and pattern in the codeword of a multiblock.
+/// The lane bits of the burst of that place and pattern in the data and the parity of a multiblock.
 fn burst(mode: u8, multiblock: usize, place: usize, pattern: usize) -> Vec<usize> {
     let positions = (0..16).filter(|j| pattern >> j & 1 == 1).map(|j| place + j);
     positions.flat_map(|position| places(mode, multiblock, position)).collect()
@@ -76,6 +84,11 @@ fn burst(mode: u8, multiblock: usize, place: usize, pattern: usize) -> Vec<usize
 
 fn hit(mode: u8, lane: &[u8], multiblock: usize, place: usize, pattern: usize) -> Vec<u8> {
     flipped(lane, &burst(mode, multiblock, place, pattern))
+}
+
+/// Six multiblocks of a mode.
+fn six(mode: u8) -> Vec<u8> {
+    lane(20 + u64::from(mode), mode, 3, 6)
 }
 
 /// The lane with the headers of these blocks of every multiblock set to 11.
@@ -100,6 +113,8 @@ fn examples() -> Vec<Case> {
     let clean_80 = lane(1, FEC_80, 4, 5);
     let repaired_80 = hit(FEC_80, &across_a_gap(FEC_80, &clean_80, 1), 3, 2045, 0b1_1011_0011);
     let failed_80 = hit(CRC12_80, &lane(2, CRC12_80, 4, 5), 2, 1234, 0b11);
+    let clean_crc3 = lane(3, CRC3, 4, 5);
+    let failed_crc3 = hit(CRC3, &clean_crc3, 2, 1234, 0b11);
     let document = Input { mode: FEC, e: 1, user: vec![0; 512], commands: vec![0; 2] }.lane();
     vec![
         case("document", capture(FEC, 1, &document)),
@@ -110,14 +125,17 @@ fn examples() -> Vec<Case> {
         case("clean-80", capture(FEC_80, 4, &clean_80)),
         case("repaired-80", capture(FEC_80, 4, &repaired_80)),
         case("failed-80", capture(CRC12_80, 4, &failed_80)),
+        case("clean-crc3", capture(CRC3, 4, &clean_crc3)),
+        case("failed-crc3", capture(CRC3, 4, &failed_crc3)),
+        case("cmd", capture(COMMAND, 4, &lane(4, COMMAND, 4, 5))),
     ]
 }
 
-/// Clean, repaired, failed and cut, in a mode.
+/// Six multiblocks in a mode: clean, cut, and hit in their data or in headers without parity.
 fn of_mode(mode: u8) -> Vec<Case> {
     let name = row(mode).name;
     let octets = row(mode).lane_octets();
-    let clean = lane(20 + u64::from(mode), mode, 3, 6);
+    let clean = six(mode);
     let damaged = |word: &str, lane: &[u8]| case(format!("{name}-{word}"), capture(mode, 3, lane));
     let hit = |lane: &[u8], multiblock, place, pattern| hit(mode, lane, multiblock, place, pattern);
     vec![
@@ -128,21 +146,83 @@ fn of_mode(mode: u8) -> Vec<Case> {
         damaged("begun-late", &clean[octets * 2..]),
         damaged("one-bit", &hit(&clean, 2, 1000, 1)),
         damaged("last-data-bit", &hit(&clean, 2, 2047, 1)),
-        damaged("first-parity-bit", &hit(&clean, 2, 2048, 1)),
-        damaged("data-and-parity", &hit(&clean, 2, 2043, 0b1_0101_0101)),
         damaged("first-multiblock", &hit(&clean, 0, 77, 0b101)),
         damaged("across-a-header", &hit(&clean, 1, 60, 0b1_1011_0101)),
-        damaged("two-failed", &hit(&hit(&clean, 1, 5, 0b10_0000_0001), 2, 9, 0b10_0000_0000_0001)),
         damaged("waiting-one-hit", &hit(&clean, 5, 500, 0b1001)),
-        damaged("parity-headers-invalid", &spoilt(mode, &clean, &[0, 9])),
         damaged("marks-invalid", &spoilt(mode, &clean, &[22, 27, 31])),
     ]
 }
 
-/// Of the six multiblocks in a mode with fill bits: these alone changed, and hits beside them.
+/// The same six hit in their parity, and hit so that two fail.
+fn of_parity(mode: u8) -> Vec<Case> {
+    let clean = six(mode);
+    let damaged = |word: &str, lane: &[u8]| case(format!("{}-{word}", row(mode).name), capture(mode, 3, lane));
+    let hit = |lane: &[u8], multiblock, place, pattern| hit(mode, lane, multiblock, place, pattern);
+    vec![
+        damaged("first-parity-bit", &hit(&clean, 2, 2048, 1)),
+        damaged("data-and-parity", &hit(&clean, 2, 2043, 0b1_0101_0101)),
+        damaged("two-failed", &hit(&hit(&clean, 1, 5, 0b10_0000_0001), 2, 9, 0b10_0000_0000_0001)),
+        damaged("parity-headers-invalid", &spoilt(mode, &clean, &[0, 9])),
+    ]
+}
+
+/// The same six in mode 5, where nothing is checked: damage of every sort.
+fn unchecked() -> Vec<Case> {
+    let clean = six(COMMAND);
+    let damaged = |word: &str, lane: &[u8]| case(format!("cmd-{word}"), capture(COMMAND, 3, lane));
+    let every_third: Vec<usize> = (0..8 * clean.len()).step_by(3).collect();
+    vec![
+        damaged("two-multiblocks-hit", &hit(COMMAND, &hit(COMMAND, &clean, 1, 5, 0b11), 2, 9, 0b1_1111)),
+        damaged("command-headers-invalid", &spoilt(COMMAND, &clean, &[0, 9])),
+        damaged("every-header-invalid", &spoilt(COMMAND, &clean, &(0..BLOCKS).collect::<Vec<usize>>())),
+        damaged("every-third-bit-flipped", &flipped(&clean, &every_third)),
+        damaged("any-octets", &Generator::seeded(52).draw_octets(clean.len())),
+    ]
+}
+
+/// The groups of CRC-3 by the names of their parities, in the order of their blocks (Table 44).
+const GROUPS: [char; 4] = ['B', 'C', 'D', 'A'];
+const GROUP_BITS: usize = 512;
+
+/// Bursts of 3 lane bits at the ends of a group of CRC-3 and across the edge after it, a header hit in each bit of its
+/// parity, and the burst of 4 that goes unnoticed: 1011, the polynomial itself. So it does where its last bit is the first
+/// of a header of the parity that carries 1: the header becomes invalid, and reads as 0. Of five multiblocks the second is
+/// hit.
+fn of_group(k: usize) -> Vec<Case> {
+    let clean = lane(51, CRC3, 2, 5);
+    let edge = places(CRC3, 1, GROUP_BITS * (k + 1) - 1)[0] + 1;
+    let name = |word: &str| format!("crc3-{}-{word}", GROUPS[k]);
+    let damaged = |word: &str, lane: &[u8]| case(name(word), capture(CRC3, 2, lane));
+    let hit = |place, pattern| hit(CRC3, &clean, 1, place, pattern);
+    let of_bit = |bit: usize| damaged(&format!("parity-bit-{bit}"), &hit(DATA_BITS + 3 * k + 2 - bit, 1));
+    let at_edges = [
+        damaged("first-bits", &hit(GROUP_BITS * k, 0b111)),
+        damaged("last-bits", &hit(GROUP_BITS * (k + 1) - 3, 0b111)),
+        damaged("last-bit-and-header", &flipped(&clean, &[edge - 1, edge, edge + 1])),
+        damaged("header-and-first-bit-after", &flipped(&clean, &[edge, edge + 1, edge + 2])),
+        damaged("1011-unnoticed", &hit(GROUP_BITS * k + 200, 0b1101)),
+        damaged("1011-into-a-header", &flipped(&clean, &[edge - 3, edge - 1, edge])),
+    ];
+    at_edges.into_iter().chain([2, 1, 0].map(of_bit)).collect()
+}
+
+/// Beside those: a bit in every group at once, and the bursts of 4 that are noticed.
+fn of_crc3() -> Vec<Case> {
+    let clean = lane(51, CRC3, 2, 5);
+    let damaged = |word: &str, lane: &[u8]| case(format!("crc3-{word}"), capture(CRC3, 2, lane));
+    let in_every_group: Vec<usize> = (0..4).flat_map(|k| places(CRC3, 1, GROUP_BITS * k + 300)).collect();
+    vec![
+        damaged("every-group", &flipped(&clean, &in_every_group)),
+        damaged("1001-noticed", &hit(CRC3, &clean, 1, 200, 0b1001)),
+        damaged("1101-noticed", &hit(CRC3, &clean, 1, 200, 0b1011)),
+        damaged("1111-noticed", &hit(CRC3, &clean, 1, 200, 0b1111)),
+    ]
+}
+
+/// The same six in a mode with fill bits: these alone changed, and hits beside them.
 fn gaps(mode: u8) -> Vec<Case> {
     let name = row(mode).name;
-    let clean = lane(20 + u64::from(mode), mode, 3, 6);
+    let clean = six(mode);
     let fill = fill_places(row(mode), BLOCKS * 6);
     let some: Vec<usize> = fill.iter().copied().filter(|place| place * place % 7 < 3).collect();
     let first_of_each: Vec<usize> = fill.iter().copied().step_by(14).collect();
@@ -219,15 +299,17 @@ fn forms() -> Vec<Case> {
         case("garbage", Generator::seeded(71).draw_octets(1000)),
         case("a-listing", b"fec 1 2 1\n0 4 0 0\n".to_vec()),
         case("zeros", vec![0; 539]),
-        case("mode-4", capture(NO_MODE, 1, &lane)),
+        case("mode-6", capture(NO_MODE, 1, &lane)),
         case("mode-255", capture(255, 1, &lane)),
-        case("mode-4-E-0", capture(NO_MODE, 0, &lane)),
-        case("mode-4-lane-263", capture(NO_MODE, 1, &lane[..263])),
+        case("mode-6-E-0", capture(NO_MODE, 0, &lane)),
+        case("mode-6-lane-263", capture(NO_MODE, 1, &lane[..263])),
         case("lane-of-fec-in-fec-80", capture(FEC_80, 1, &lane)),
+        case("lane-of-fec-in-crc3", capture(CRC3, 1, &lane)),
+        case("lane-of-fec-in-cmd", capture(COMMAND, 1, &lane)),
         case("E-0-lane-263", capture(FEC, 0, &lane[..263])),
         case("one-octet-after", with(&good, &[0])),
         case("a-multiblock-after", with(&good, &lane[..264])),
-        case("mode-4-one-octet-after", with(&capture(NO_MODE, 1, &lane), &[0])),
+        case("mode-6-one-octet-after", with(&capture(NO_MODE, 1, &lane), &[0])),
         case("E-257-one-octet-after", with(&capture(FEC, 257, &lane), &[0])),
         case("no-lane-one-octet-after", with(&capture(FEC, 1, &[]), &[0])),
     ];
@@ -253,29 +335,31 @@ fn lengths() -> Vec<Case> {
     };
     let of_modes = |octets: usize, modes: &[u8]| modes.iter().map(|mode| (octets, *mode)).collect::<Vec<_>>();
     let fit = [of_modes(63_371, &[7]), of_modes(63_372, &[FEC_80])];
-    let narrow = [of_modes(63_372, &[CRC12, FEC, 7]), of_modes(64_011, &[CRC12, FEC, 7])];
+    let narrow = [of_modes(63_372, &[CRC12, FEC, 7, CRC3, COMMAND]), of_modes(64_011, &[CRC12, FEC, 7])];
     let wide = [of_modes(64_012, &[CRC12_80, FEC_80])];
     fit.into_iter().chain(narrow).chain(wide).flatten().map(of_octets).collect()
 }
 
-/// A multiblock more than a call takes, in each width, and an octet after the longest capture of all.
+/// A multiblock more than a call takes, in modes 0, 2, 4 and 5, and an octet after the longest capture of all.
 fn too_long() -> Vec<Case> {
     let zeros = |mode: u8, count: usize| capture(mode, 7, &vec![0; row(mode).lane_octets() * count]);
-    let one_more = |mode: u8| {
+    let one_more = |name: &str, mode: u8| {
         let count = row(mode).most + 1;
-        case(format!("{count}-multiblocks"), zeros(mode, count))
+        case(format!("{name}{count}-multiblocks"), zeros(mode, count))
     };
     let longest = zeros(CRC12_80, row(CRC12_80).most);
     let after = case(format!("octets-{}-one-octet-after", longest.len()), [longest, vec![0]].concat());
-    vec![one_more(CRC12), one_more(CRC12_80), after]
+    vec![one_more("", CRC12), one_more("", CRC12_80), after, one_more("crc3-", CRC3), one_more("cmd-", COMMAND)]
 }
 
 pub fn cases() -> Vec<Case> {
-    let all = [CRC12, FEC, CRC12_80, FEC_80];
-    let of_modes: Vec<Case> = all.into_iter().flat_map(|mode| of_mode(mode).into_iter().chain(edges(mode))).collect();
-    let in_gaps: Vec<Case> = [CRC12_80, FEC_80].into_iter().flat_map(gaps).collect();
-    let parts = [examples(), of_modes, in_gaps, bursts(), bursts_80(), vec![longest()], forms(), counts()];
-    parts.into_iter().chain([lengths(), too_long()]).flatten().collect()
+    let with_parity = [CRC12, FEC, CRC12_80, FEC_80, CRC3];
+    let of_modes = with_parity.into_iter().flat_map(|mode| [of_mode(mode), of_parity(mode), edges(mode)].concat());
+    let of_command = [of_mode(COMMAND), unchecked(), edges(COMMAND)].concat();
+    let in_gaps = [CRC12_80, FEC_80].map(gaps).concat();
+    let in_groups = [[0, 1, 2, 3].map(of_group).concat(), of_crc3()].concat();
+    let parts = [of_modes.collect(), of_command, in_gaps, in_groups, bursts(), bursts_80(), vec![longest()], forms()];
+    [examples()].into_iter().chain(parts).chain([counts(), lengths(), too_long()]).flatten().collect()
 }
 
 /// The capture of that name, if there is one.
@@ -285,24 +369,31 @@ pub fn named(name: &str) -> Option<Vec<u8>> {
 
 #[cfg(test)]
 mod tests {
-    use super::cases;
+    use super::{cases, Case};
     use crate::listing::listing;
     use std::collections::HashSet;
+    use std::sync::LazyLock;
+
+    static ALL: LazyLock<Vec<Case>> = LazyLock::new(cases);
+
+    fn capture_of(name: &str) -> &'static [u8] {
+        &ALL.iter().find(|case| case.name == name).expect("a case of that name").capture
+    }
 
     fn listing_of(name: &str) -> String {
-        listing(&super::named(name).expect("a case of that name"))
+        listing(capture_of(name))
     }
 
     #[test]
     fn no_two_have_one_name() {
-        let cases = cases();
-        let names: HashSet<&str> = cases.iter().map(|case| case.name.as_str()).collect();
-        assert_eq!(names.len(), cases.len());
+        let names: HashSet<&str> = ALL.iter().map(|case| case.name.as_str()).collect();
+        assert_eq!(names.len(), ALL.len());
+        assert_eq!(super::named("clean"), Some(capture_of("clean").to_vec()));
     }
 
     #[test]
     fn every_refusal_and_status_occurs() {
-        let text: String = cases().iter().map(|case| listing(&case.capture)).collect();
+        let text: String = ALL.iter().map(|case| listing(&case.capture)).collect();
         for refusal in [1, 2, 4, 8] {
             assert!(text.contains(&format!("refused {refusal}\n")));
         }
@@ -318,10 +409,10 @@ mod tests {
 
     #[test]
     fn those_at_the_edges() {
-        assert_eq!(super::named("fec-240-multiblocks").map(|capture| capture.len()), Some(63_371));
-        assert_eq!(super::named("fec-80-200-multiblocks").map(|capture| capture.len()), Some(64_011));
-        assert_eq!(super::named("octets-64012-mode-2").map(|capture| capture.len()), Some(64_012));
-        assert_eq!(super::named("octets-64011-one-octet-after").map(|capture| capture.len()), Some(64_012));
+        assert_eq!(capture_of("fec-240-multiblocks").len(), 63_371);
+        assert_eq!(capture_of("fec-80-200-multiblocks").len(), 64_011);
+        assert_eq!(capture_of("octets-64012-mode-2").len(), 64_012);
+        assert_eq!(capture_of("octets-64011-one-octet-after").len(), 64_012);
         assert_eq!(listing_of("fec-0-multiblocks"), "fec 256 0 0\n");
         assert_eq!(listing_of("fec-1-multiblocks"), "fec 256 1 0\n");
         assert_eq!(listing_of("fec-80-1-multiblocks"), "fec-80 256 1 0\n");
@@ -330,6 +421,58 @@ mod tests {
         assert_eq!(listing_of("two-bits-10-apart"), "fec 2 3 2\n0 4 0 0\n1 1 78 129\n");
         assert_eq!(listing_of("fec-80-burst-2065-257"), "fec-80 2 3 2\n0 4 0 0\n1 1 2065 257\n");
         assert_eq!(listing_of("fec-80-burst-2064-513"), "fec-80 2 3 2\n0 4 0 0\n1 2 0 0\n");
+    }
+
+    #[test]
+    fn those_of_modes_4_and_5() {
+        assert_eq!(listing_of("clean-crc3"), "crc3 4 5 4\n0 4 0 0\n1 0 0 0\n2 0 0 0\n3 0 0 0\n");
+        assert_eq!(listing_of("failed-crc3"), "crc3 4 5 4\n0 4 0 0\n1 0 0 0\n2 2 0 0\n3 4 0 0\n");
+        assert_eq!(listing_of("cmd"), "cmd 4 5 4\n0 4 0 0\n1 0 0 0\n2 0 0 0\n3 0 0 0\n");
+        for (name, mode) in [("crc3", 4), ("cmd", 5)] {
+            assert_eq!(listing_of(&format!("{name}-0-multiblocks")), format!("{name} 256 0 0\n"));
+            assert_eq!(listing_of(&format!("{name}-1-multiblocks")), format!("{name} 256 1 0\n"));
+            assert!(listing_of(&format!("{name}-240-multiblocks")).ends_with("\n238 0 0 0\n"));
+            assert_eq!(listing_of(&format!("{name}-241-multiblocks")), "refused 8\n");
+            assert_eq!(listing_of(&format!("octets-63372-mode-{mode}")), "refused 8\n");
+        }
+        assert_eq!(listing_of("mode-6"), "refused 1\n");
+    }
+
+    fn statuses_of(name: &str) -> Vec<String> {
+        listing_of(name).lines().skip(1).map(|line| line.split(' ').nth(1).unwrap_or("").to_string()).collect()
+    }
+
+    /// The multiblock that was hit failed, and so took the next one's trust; with the first bit after group A the next
+    /// multiblock failed too. Of the four headers that 1011 runs into all but that of C carry 1.
+    #[test]
+    fn hits_of_groups() {
+        for group in super::GROUPS {
+            let names =
+                ["first-bits", "last-bits", "last-bit-and-header", "parity-bit-2", "parity-bit-1", "parity-bit-0"];
+            for name in names {
+                assert_eq!(statuses_of(&format!("crc3-{group}-{name}")), ["4", "2", "4", "0"]);
+            }
+            let after = statuses_of(&format!("crc3-{group}-header-and-first-bit-after"));
+            assert_eq!(after, if group == 'A' { ["4", "2", "6", "4"] } else { ["4", "2", "4", "0"] });
+            assert_eq!(statuses_of(&format!("crc3-{group}-1011-unnoticed")), ["4", "0", "0", "0"]);
+        }
+        for name in ["every-group", "1001-noticed", "1101-noticed", "1111-noticed"] {
+            assert_eq!(statuses_of(&format!("crc3-{name}")), ["4", "2", "4", "0"]);
+        }
+        let into_a_header =
+            super::GROUPS.map(|group| statuses_of(&format!("crc3-{group}-1011-into-a-header"))[1] == "0");
+        assert_eq!(into_a_header, [true, false, true, true]);
+    }
+
+    #[test]
+    fn mode_5_says_0_and_4_alone() {
+        let of_mode_5 = ALL.iter().filter(|case| listing(&case.capture).starts_with("cmd "));
+        let mut released = 0;
+        for statuses in of_mode_5.map(|case| statuses_of(&case.name)) {
+            assert!(statuses.iter().enumerate().all(|(k, status)| status == if k == 0 { "4" } else { "0" }));
+            released += statuses.len();
+        }
+        assert!(released > 300);
     }
 
     #[test]

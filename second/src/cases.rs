@@ -5,17 +5,17 @@
 //! above 2^20, so one draw makes each number; "rarely" is draw(32) being 0. A digest is FNV-1a of 64 bits over octets, a number as 8 octets with the
 //! highest first; it is printed in 16 hexadecimal digits, all else in decimal.
 //!
-//! A mode is 0 to 3, draw(4); by it a block has 66 bits or 80, a multiblock 2,112 lane bits or 2,560 and 264 lane octets or
-//! 320, and a call takes at most 240 multiblocks or 200.
+//! A mode is 0 to 5, draw(6); in modes 2 and 3 a block has 80 bits, a multiblock 2,560 lane bits and 320 lane octets, and a
+//! call takes at most 200 multiblocks; in the others it is 66, 2,112, 264 and 240.
 //! Input of a sender: mode, E, the number of multiblocks; 256 user octets for each, draw(256) each; one command for each,
-//! draw(128) each in modes 0 and 2, and 0 without a draw in modes 1 and 3.
+//! draw(128) each in modes 0, 2 and 4, draw(2^19) each in mode 5, and 0 without a draw in modes 1 and 3.
 //! Calls: until nothing is left, draw(4) multiblocks, but at most what is left; 0 is an empty call. No case takes more
 //! than 64 calls.
 
 use std::ops::Range;
 
 use crate::generator::Generator;
-use crate::mode::{row, USER_OCTETS};
+use crate::mode::{row, MODES, USER_OCTETS};
 use crate::sender::{self, Sender};
 
 const MOST_CALLS: usize = 64;
@@ -32,7 +32,7 @@ impl Input {
     /// Mode, E and the number of multiblocks were drawn; now the octets and the commands.
     pub fn draw(generator: &mut Generator, mode: u8, e: u32, multiblocks: usize) -> Input {
         let user = generator.draw_octets(USER_OCTETS * multiblocks);
-        let most = row(mode).word.highest_command as usize;
+        let most = row(mode).word.highest_command() as usize;
         let mut command = || if most == 0 { 0 } else { generator.draw(most + 1) as u32 };
         let commands = (0..multiblocks).map(|_| command()).collect();
         Input { mode, e, user, commands }
@@ -52,7 +52,7 @@ impl Input {
 }
 
 pub fn draw_mode(generator: &mut Generator) -> u8 {
-    generator.draw(4) as u8
+    generator.draw(MODES) as u8
 }
 
 /// E of lanes and damaged lanes.

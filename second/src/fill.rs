@@ -129,9 +129,9 @@ mod tests {
 
     #[test]
     fn a_mode_without_a_gap_stands_at_0() {
-        assert_eq!([0, 1, 2, 3].map(|number| after(row(number), 0, 1)), [0, 0, 0x1_FFF8, 0x1_FFF8]);
+        assert_eq!([0, 1, 2, 3, 4, 5].map(|number| after(row(number), 0, 1)), [0, 0, 0x1_FFF8, 0x1_FFF8, 0, 0]);
         assert_eq!(after(row(3), 5, 2), after_block(after_block(5)));
-        for (number, most) in [(0, 0), (1, 0), (2, 131_070), (3, 131_070)] {
+        for (number, most) in [(0, 0), (1, 0), (2, 131_070), (3, 131_070), (4, 0), (5, 0)] {
             assert!(is_in_range(row(number), most) && !is_in_range(row(number), most + 1));
         }
     }

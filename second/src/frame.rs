@@ -92,7 +92,7 @@ mod tests {
 
     #[test]
     fn what_is_sent_is_read() {
-        for number in 0..4 {
+        for number in 0..6 {
             let read = Multiblock::of(row(number), &lane_bits(row(number), 0, 0x393F_9521, &data()));
             assert_eq!((read.headers, read.data), (Headers::carrying(0x393F_9521), data()));
         }
@@ -100,7 +100,7 @@ mod tests {
 
     #[test]
     fn headers_are_01_for_1_and_10_for_0() {
-        for (number, octets) in [(0, 264), (1, 264), (2, 320), (3, 320)] {
+        for (number, octets) in [(0, 264), (1, 264), (2, 320), (3, 320), (4, 264), (5, 264)] {
             let lane = bits::octets(&lane_bits(row(number), 0, 0x8000_0001, &data()));
             let values = header_values(row(number), &lane);
             assert_eq!((lane.len(), lane[0] >> 6), (octets, 1));

@@ -1,7 +1,7 @@
 //! `SEED lane`: what a sender makes of a seeded input, cut into calls (cases.rs has the generator and the digest).
 //!
 //! Drawn: mode; E = [1, 2, 3, 256][draw(4)]; N = 1 + draw(6) multiblocks; user octets; commands; calls; a fill, draw(131071)
-//! in modes 2 and 3, and 0 without a draw in modes 0 and 1. The first call is given a fresh sender but for that fill.
+//! in modes 2 and 3, and 0 without a draw in the others. The first call is given a fresh sender but for that fill.
 //! A line: `SEED lane MODE E N CALLS DIGEST HISTORY PARITY NUMBER FILL`, with the calls counted (empty ones too), the digest
 //! of the whole lane, and the state after the last call.
 
@@ -64,7 +64,7 @@ pub fn line(seed: u64) -> String {
 mod tests {
     use super::{case, sent, Case};
 
-    const SEEDS: std::ops::RangeInclusive<u64> = 1..=320;
+    const SEEDS: std::ops::RangeInclusive<u64> = 1..=480;
 
     #[test]
     fn calls_make_the_lane_of_one_call() {
@@ -78,7 +78,7 @@ mod tests {
     #[test]
     fn every_mode_and_extent_occurs() {
         let drawn: Vec<(u8, u32)> = SEEDS.map(|seed| case(seed).input).map(|input| (input.mode, input.e)).collect();
-        for mode in 0..4 {
+        for mode in 0..6 {
             for e in [1, 2, 3, 256] {
                 assert!(drawn.iter().filter(|case| **case == (mode, e)).count() > 9, "mode {mode}, E {e}");
             }

@@ -10,7 +10,7 @@
 //!   3  octet draw(11) becomes draw(256)
 //!   4  only the first draw(L + 1) octets are kept, of L
 //!   5  1 + draw(300) octets more, draw(256) each
-//!   7  the mode becomes draw(5)
+//!   7  the mode becomes draw(7)
 //! The text lent has 4,096 octets; if draw(8) is 0, draw(64). Each is 165 before.
 //! A line: `SEED listing LENGTH REFUSAL COUNT DIGEST`, with the length of the capture and the digest of all octets lent.
 
@@ -19,7 +19,7 @@ use crate::damaged;
 use crate::digest::Digest;
 use crate::generator::Generator;
 use crate::listing;
-use crate::mode::{row, Mode};
+use crate::mode::{row, Mode, MODES};
 
 const BEFORE: u8 = 165;
 const ROOM: usize = 4096;
@@ -39,15 +39,15 @@ fn draw_lane(generator: &mut Generator, mode: &Mode, damaged: Vec<u8>) -> Vec<u8
 
 fn draw_capture(generator: &mut Generator) -> Vec<u8> {
     let case = damaged::draw_case(generator);
-    let mode = row(case.mode);
+    let mode = row(case.input.mode);
     let mut lane = draw_lane(generator, mode, case.lane);
     let form = generator.draw(12);
     if form == 6 {
         lane.truncate(lane.len().saturating_sub(generator.draw(mode.lane_octets())));
     }
-    let of_mode = |mode: u8| capture(mode, case.e as u16, &lane);
-    let of_extent = |e: usize| capture(case.mode, e as u16, &lane);
-    let mut whole = of_mode(case.mode);
+    let of_mode = |mode: u8| capture(mode, case.input.e as u16, &lane);
+    let of_extent = |e: usize| capture(case.input.mode, e as u16, &lane);
+    let mut whole = of_mode(case.input.mode);
     match form {
         0 => of_mode(generator.draw_octet()),
         1 => of_extent(generator.one_of(&[0, 1, 256, 257])),
@@ -65,7 +65,7 @@ fn draw_capture(generator: &mut Generator) -> Vec<u8> {
             let more = 1 + generator.draw(300);
             [whole, generator.draw_octets(more)].concat()
         }
-        7 => of_mode(generator.draw(5) as u8),
+        7 => of_mode(generator.draw(MODES + 1) as u8),
         _ => whole,
     }
 }

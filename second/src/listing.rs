@@ -1,6 +1,6 @@
 //! Captures and their listings (document 01, "Capture and listing"). A capture is two sections, each after its count in
 //! four octets, highest first: mode and E in two octets, and the lane's octets. Nothing follows. How long it may be goes by
-//! its mode; where there is no such mode, as in modes 0 and 1 (document 02, request 2).
+//! its mode; where there is no such mode, as in mode 0 (document 02, request 2).
 //!
 //! `second listings` reads named captures on standard input, one after another, the name and the capture as a section
 //! each, and prints for each its name with a colon on a line, and its listing.
@@ -79,18 +79,20 @@ mod tests {
 
     #[test]
     fn every_mode_has_its_name() {
-        let heads = ["crc12 1 0 0\n", "fec 1 0 0\n", "crc12-80 1 0 0\n", "fec-80 1 0 0\n", "refused 1\n"];
-        assert_eq!([0, 1, 2, 3, 4].map(|mode| listing(&capture(mode, 1, &[]))), heads);
+        for (mode, name) in ["crc12", "fec", "crc12-80", "fec-80", "crc3", "cmd"].iter().enumerate() {
+            assert_eq!(listing(&capture(mode as u8, 1, &[])), format!("{name} 1 0 0\n"));
+        }
+        assert_eq!(listing(&capture(6, 1, &[])), "refused 1\n");
     }
 
     #[test]
     fn the_form_goes_before_the_table() {
         let lane = [0; 264];
-        assert_eq!(listing(&capture(4, 0, &lane[..263])), "refused 1\n");
+        assert_eq!(listing(&capture(6, 0, &lane[..263])), "refused 1\n");
         assert_eq!(listing(&capture(1, 0, &lane[..263])), "refused 2\n");
         assert_eq!(listing(&capture(1, 1, &lane[..263])), "refused 4\n");
         assert_eq!(listing(&capture(3, 1, &lane)), "refused 4\n");
-        assert_eq!(listing(&[capture(4, 0, &lane), vec![0]].concat()), "refused 8\n");
+        assert_eq!(listing(&[capture(6, 0, &lane), vec![0]].concat()), "refused 8\n");
     }
 
     /// 8 comes before 1 and before 4: what is too long is refused by 8, whatever its mode octet is.
@@ -100,10 +102,13 @@ mod tests {
             |mode, length: usize| listing(&capture(mode, 1, &vec![0; length - 11])).lines().next().map(String::from);
         let lengths = [63_371, 63_372, 64_011, 64_012];
         let refused = |numbers: [u8; 4]| numbers.map(|number| Some(format!("refused {number}")));
-        for mode in [0, 1, 4, 7, 255] {
+        for mode in [0, 1, 4, 5, 6, 7, 255] {
             assert_eq!(lengths.map(|length| first(mode, length))[1..], refused([0, 8, 8, 8])[1..]);
         }
-        assert_eq!([4, 7, 255].map(|mode| first(mode, 63_371)), [(); 3].map(|_| Some("refused 1".to_string())));
+        assert_eq!([6, 7, 255].map(|mode| first(mode, 63_371)), [(); 3].map(|_| Some("refused 1".to_string())));
+        for (mode, name) in [(4, "crc3"), (5, "cmd")] {
+            assert_eq!(first(mode, 63_371), Some(format!("{name} 1 240 239")));
+        }
         for (mode, name) in [(2, "crc12-80"), (3, "fec-80")] {
             assert_eq!(first(mode, 63_371), Some(format!("{name} 1 198 197")));
             assert_eq!(first(mode, 64_011), Some(format!("{name} 1 200 199")));

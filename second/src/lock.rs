@@ -521,10 +521,11 @@ mod tests {
         taken
     }
 
-    /// The bound 95 + 128 E is met from every block, and attained from some: the pilot's ending fits at no other phase.
+    /// The bound 95 + 128 E is met from every block, and attained from some: the pilot's ending fits at no other phase, in
+    /// whatever mode has the fixed bits of Table 41.
     #[test]
-    fn an_undamaged_crc_lane_is_held() {
-        for (mode, e) in [(0, 1), (0, 2), (0, 3), (2, 1), (2, 2), (2, 3)] {
+    fn an_undamaged_lane_without_fec_is_held() {
+        for (mode, e) in [0, 2, 4, 5].into_iter().flat_map(|mode| [1, 2, 3].map(|e| (mode, e))) {
             let headers = lane_headers(mode, e, 6 * e as usize + 4);
             let worst = (0..32 * e as usize).map(|from| blocks_to_both(mode, e, &headers[from..])).max();
             assert_eq!(worst, Some(95 + 128 * e as usize));
@@ -539,11 +540,12 @@ mod tests {
 
     #[test]
     fn refusals_of_arguments() {
-        assert_eq!([0, 1, 2, 3, 4].map(|mode| step(mode, 1, Lock::fresh(), ONE).refusal), [0, 0, 0, 0, 1]);
+        assert_eq!([0, 1, 2, 3, 4, 5].map(|mode| step(mode, 1, Lock::fresh(), ONE).refusal), [0; 6]);
+        assert_eq!([6, 7, 255].map(|mode| step(mode, 1, Lock::fresh(), ONE).refusal), [1; 3]);
         assert_eq!([0, 1, 256, 257].map(|e| step(0, e, Lock::fresh(), ONE).refusal), [2, 0, 0, 2]);
         assert_eq!([0, 1, 2, 3, 4, 255].map(|header| step(0, 1, Lock::fresh(), header).refusal), [0, 0, 0, 0, 9, 9]);
         let bad = Lock { header: HeaderLock { run: 64, ..HeaderLock::fresh() }, ..Lock::fresh() };
-        assert_eq!([step(4, 0, bad, 4).refusal, step(0, 0, bad, 4).refusal, step(0, 1, bad, 4).refusal], [1, 2, 3]);
+        assert_eq!([step(6, 0, bad, 4).refusal, step(0, 0, bad, 4).refusal, step(0, 1, bad, 4).refusal], [1, 2, 3]);
     }
 
     #[test]
@@ -554,9 +556,10 @@ mod tests {
         check(HeaderLock { run: 64, ..locked }, 3);
         check(HeaderLock { bad: 16, ..locked }, 3);
         check(HeaderLock { offset: 66, ..locked }, 3);
-        for (offset, refused) in [(65, [0; 4]), (66, [3, 3, 0, 0]), (79, [3, 3, 0, 0]), (80, [3; 4])] {
+        let wide = [3, 3, 0, 0, 3, 3];
+        for (offset, refused) in [(65, [0; 6]), (66, wide), (79, wide), (80, [3; 6])] {
             let lock = Lock { header: HeaderLock { offset, ..locked }, ..Lock::fresh() };
-            assert_eq!([0, 1, 2, 3].map(|mode| step(mode, 1, lock, ONE).refusal), refused);
+            assert_eq!([0, 1, 2, 3, 4, 5].map(|mode| step(mode, 1, lock, ONE).refusal), refused);
         }
         check(HeaderLock { locked: false, bad: 0, ..locked }, 0);
         check(HeaderLock { locked: false, bad: 1, ..locked }, 3);

@@ -1,6 +1,6 @@
 //! The second program: scrambling bit by bit (clause 7.2.4), fill bits by Table 38 (clause 7.2.5), sync words by the lists
-//! of Tables 41 and 45 (clause 7.3), and parity by long division of polynomials (clauses 7.4.2 and 7.5.2).
-//! `second tables` prints Tables 37, 52, 54 and 55, a spread of sync words, and what headers read as; `second misprint`,
+//! of Tables 41, 43, 45 and 47 (clause 7.3), and parity by long division of polynomials (clauses 7.4.2, 7.4.3 and 7.5.2).
+//! `second tables` prints Tables 37, 52, 53, 54 and 55, a spread of sync words, and what headers read as; `second misprint`,
 //! `second bursts` and `second fill` print what can be found by trying every case, and `second locking` how soon lanes of FEC
 //! are locked by the table of document 01 and by that of request 4. `second bulk FIRST LAST` prints a line for the seeded case
 //! of each seed from FIRST to LAST. `second captures` prints named captures one after another, `second capture NAME` one of

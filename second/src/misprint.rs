@@ -40,7 +40,7 @@ mod tests {
     #[test]
     fn blocks_one_by_one_are_blocks_at_once() {
         let one_by_one = BLOCKS.iter().fold(0, after);
-        assert_eq!(one_by_one, CRC12.parity(&BLOCKS.concat()));
+        assert_eq!(one_by_one, CRC12.of_octets(&BLOCKS.concat()));
     }
 
     #[test]

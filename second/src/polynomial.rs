@@ -1,4 +1,4 @@
-//! Polynomials whose coefficients are bits, with sums modulo 2: the arithmetic that clauses 7.4.2 and 7.5.2
+//! Polynomials whose coefficients are bits, with sums modulo 2: the arithmetic that clauses 7.4.2, 7.4.3 and 7.5.2
 //! speak in. Entry k of the vector is the coefficient of x^k.
 
 use crate::bits;

@@ -1,7 +1,8 @@
 //! The receiver, bit by bit (document 01, "What the receiver releases" and "Numbers of refusal"). A multiblock waits
-//! until the next has come with its parity. The two together are a codeword: it agrees where long division leaves
-//! nothing, and else, in FEC mode, the burst that leaves the same is flipped. With each goes how many of its own headers
-//! were invalid (document 02, request 1).
+//! until the next has come with its parity, or with what is missing of it: with CRC-3 three groups' came with the multiblock
+//! itself, and are kept in `own` (document 02, request 5). A group and its parity are a codeword. The parity agrees where
+//! long division leaves nothing of any; else, in FEC mode, the burst that leaves the same is flipped. Without groups nothing
+//! can disagree. With each goes how many of its own headers were invalid (request 1).
 
 use std::collections::HashMap;
 use std::sync::LazyLock;
@@ -10,10 +11,8 @@ use crate::bits;
 use crate::bursts::{self, Burst};
 use crate::frame::Multiblock;
 use crate::mode::{mode, Mode, BLOCKS, DATA_BITS, USER_OCTETS};
-use crate::polynomial::Polynomial;
 use crate::scrambler::{descramble, HISTORY_BITS};
 
-const HIGHEST_MARKED_COMMAND: u32 = 255;
 const UNTRUSTED: u8 = 4;
 
 #[derive(Clone, Debug, PartialEq)]
@@ -25,6 +24,8 @@ pub struct Receiver {
     pub command: u32,
     /// Invalid headers of the multiblock that waits.
     pub invalid: u8,
+    /// Its parity as far as it came with its own sync word.
+    pub own: u16,
 }
 
 #[derive(Debug, PartialEq)]
@@ -98,7 +99,7 @@ struct Release {
 /// Every burst that can be mended, by what it leaves.
 static BURSTS: LazyLock<HashMap<u32, Burst>> = LazyLock::new(bursts::by_remainder);
 
-/// What a codeword turns out to be.
+/// What a multiblock turns out to be.
 enum Verdict {
     Agrees,
     Repaired(Burst),
@@ -106,17 +107,21 @@ enum Verdict {
 }
 
 impl Verdict {
-    fn of(mode: &Mode, codeword: &[bool]) -> Verdict {
-        match mode.word.code.remainder(&Polynomial::of_bits(codeword)) {
-            0 => Verdict::Agrees,
-            left if mode.word.repairs => BURSTS.get(&left).map_or(Verdict::Failed, |burst| Verdict::Repaired(*burst)),
+    /// By what is left of its groups.
+    fn of(mode: &Mode, left: &[u32]) -> Verdict {
+        match left {
+            _ if left.iter().all(|left| *left == 0) => Verdict::Agrees,
+            [left] if mode.word.repairs => BURSTS.get(left).map_or(Verdict::Failed, |burst| Verdict::Repaired(*burst)),
             _ => Verdict::Failed,
         }
     }
 
+    /// The data bits that are flipped back.
     fn flipped_positions(&self) -> Vec<usize> {
         match self {
-            Verdict::Repaired(burst) => burst.positions(),
+            Verdict::Repaired(burst) => {
+                burst.positions().into_iter().filter(|position| *position < DATA_BITS).collect()
+            }
             _ => vec![],
         }
     }
@@ -133,13 +138,20 @@ impl Verdict {
 
 impl Receiver {
     pub fn fresh() -> Receiver {
-        Receiver { waiting: false, octets: [0; USER_OCTETS], history: 0, trusted: false, command: 0, invalid: 0 }
+        Receiver {
+            waiting: false,
+            octets: [0; USER_OCTETS],
+            history: 0,
+            trusted: false,
+            command: 0,
+            invalid: 0,
+            own: 0,
+        }
     }
 
     fn is_in_range(&self, mode: &Mode) -> bool {
-        let highest_command = if mode.word.highest_command == 0 { 0 } else { HIGHEST_MARKED_COMMAND };
-        let fits = self.history >> HISTORY_BITS == 0 && self.command <= highest_command;
-        let counts = usize::from(self.invalid) <= BLOCKS;
+        let fits = self.history >> HISTORY_BITS == 0 && self.command <= mode.word.highest_received();
+        let counts = usize::from(self.invalid) <= BLOCKS && self.own >> mode.word.code.own_width() == 0;
         fits && counts && (self.waiting || *self == Receiver::fresh())
     }
 
@@ -156,21 +168,22 @@ impl Receiver {
     fn waiting_with(mode: &Mode, come: &Multiblock, history: u64, trusted: bool) -> Receiver {
         let octets = bits::octets(&come.data).try_into().expect("a multiblock has 256 octets of data");
         let command = mode.word.layout.command(&come.headers);
-        Receiver { waiting: true, octets, history, trusted, command, invalid: come.headers.invalid() }
+        let own = mode.word.layout.own(&come.headers) as u16;
+        Receiver { waiting: true, octets, history, trusted, command, invalid: come.headers.invalid(), own }
     }
 
     /// The multiblock that waits is released, now that the next one has come.
     fn release(&self, mode: &Mode, come: &Multiblock) -> (Receiver, Release) {
-        let parity = u64::from(mode.word.layout.parity(&come.headers));
-        let mut codeword = [bits::of_octets(&self.octets), bits::of_number(parity, mode.word.code.width())].concat();
-        let verdict = Verdict::of(mode, &codeword);
+        let code = mode.word.code;
+        let parity = code.together(u32::from(self.own), mode.word.layout.before(&come.headers));
+        let mut data = bits::of_octets(&self.octets);
+        let verdict = Verdict::of(mode, &code.left(&data, parity));
         for position in verdict.flipped_positions() {
-            codeword[position] ^= true;
+            data[position] ^= true;
         }
-        let data = &codeword[..DATA_BITS];
         let (status, place, pattern) = verdict.numbers();
         let release = Release {
-            octets: descramble(self.history, data),
+            octets: descramble(self.history, &data),
             status: if self.trusted { status } else { status + UNTRUSTED },
             command: self.command,
             place,
@@ -285,8 +298,7 @@ mod tests {
 
     #[test]
     fn a_clean_lane_comes_back() {
-        for mode in 0..4 {
-            let command = if mode % 2 == 0 { 0x55 } else { 0 };
+        for (mode, command) in [(0, 0x55), (1, 0), (2, 0x55), (3, 0), (4, 0x55), (5, 0x5_5AAA)] {
             let (received, lent) = received(mode, &lane(mode, 4, command));
             assert_eq!((received.refusal, received.count), (0, 3));
             assert_eq!(lent.octets[..768], user(4)[..768]);
@@ -322,7 +334,7 @@ mod tests {
 
     #[test]
     fn crc_finds_and_mends_nothing() {
-        for mode in [0, 2] {
+        for mode in [0, 2, 4] {
             let mut lane = lane(mode, 4, 9);
             flip(mode, &mut lane, &[700]);
             let (_, lent) = received(mode, &lane);
@@ -343,6 +355,91 @@ mod tests {
         }
     }
 
+    /// Statuses of the four that are released of a lane of five, with lane bits flipped that count from multiblock 1 on.
+    fn statuses_after(mode: u8, lane: &[u8], flips: &[usize]) -> Vec<u8> {
+        let mut all = bits::of_octets(lane);
+        for flip in flips {
+            all[row(mode).multiblock_bits() + flip] ^= true;
+        }
+        received(mode, &bits::octets(&all)).1.statuses[..4].to_vec()
+    }
+
+    /// A group that disagrees fails its multiblock, and a failed one takes the next one's trust. CRC-A, in blocks 0 to 2,
+    /// is the parity of the multiblock before; B, C and D, in blocks 8 to 10, 16 to 18 and 24 to 26, are of its own.
+    #[test]
+    fn every_group_of_crc3_counts() {
+        let clean = lane(4, 5, 0);
+        let after = |flips: &[usize]| statuses_after(4, &clean, flips);
+        for group in 0..4 {
+            for bit in [0, 511] {
+                assert_eq!(after(&[row(4).data_place(512 * group + bit)]), [4, 2, 4, 0]);
+            }
+        }
+        let after_header = |block: usize| after(&[66 * block, 66 * block + 1]);
+        assert!([8, 9, 10, 16, 17, 18, 24, 25, 26].iter().all(|block| after_header(*block) == [4, 2, 4, 0]));
+        assert!([0, 1, 2].iter().all(|block| after_header(*block) == [6, 4, 0, 0]));
+        assert!([3, 4, 7, 12, 20, 21, 22, 27, 31].iter().all(|block| after_header(*block) == [4, 0, 0, 0]));
+    }
+
+    /// Across each edge of a group, from 4 bits before it to 4 after it: a burst of at most 3 lane bits fails a multiblock
+    /// if it hits data. Of the bursts of 4 only 1011 can be missed: within the data of a block it is, and it may be where
+    /// its last bit is the first of a header.
+    #[test]
+    fn what_crc3_misses() {
+        let clean = lane(4, 5, 0);
+        let fails = |flips: &[usize]| statuses_after(4, &clean, flips).iter().any(|status| status & 2 == 2);
+        let is_data = |bit: &usize| bit % 66 > 1;
+        for first in (1..=4).flat_map(|group| 66 * 8 * group - 4..66 * 8 * group + 4) {
+            let flips = |lane_order: &[usize]| lane_order.iter().map(|j| first + j).collect::<Vec<usize>>();
+            for flips in [&[0][..], &[0, 1], &[0, 2], &[0, 1, 2]].map(flips) {
+                assert!(fails(&flips) || !flips.iter().any(is_data));
+            }
+            assert!([&[0, 3][..], &[0, 1, 3], &[0, 1, 2, 3]].map(flips).iter().all(|flips| fails(flips)));
+            if first % 66 > 1 && (first + 3) % 66 > 4 {
+                assert!(!fails(&flips(&[0, 2, 3])));
+            }
+        }
+    }
+
+    #[test]
+    fn nothing_disagrees_in_mode_5() {
+        assert_eq!(statuses_after(5, &lane(5, 5, 1), &(0..2112).step_by(3).collect::<Vec<_>>()), [4, 0, 0, 0]);
+        let (_, lent) = received(5, &[0xA5; 264 * 4]);
+        assert_eq!((&lent.statuses[..3], lent.places, lent.patterns), (&[4, 0, 0][..], vec![0; 4], vec![0; 4]));
+        let mut lane = lane(5, 4, 0x7_FFFF);
+        flip(5, &mut lane, &[700]);
+        let (_, lent) = received(5, &lane);
+        assert_eq!((&lent.statuses[..3], lent.octets[256..512] == user(4)[256..512]), (&[4, 0, 0][..], false));
+    }
+
+    /// What came with the waiting multiblock's own sync word is kept, and only where there is such a thing.
+    #[test]
+    fn own_parity_is_kept() {
+        for mode in 0..6 {
+            let (after, _) = received(mode, &lane(mode, 3, 0));
+            let parity = row(mode).word.code.parity(&bits::of_octets(&after.state.octets));
+            let own = if mode == 4 { (parity >> 3) as u16 } else { 0 };
+            assert_eq!((after.state.own, own > 0), (own, mode == 4));
+        }
+        let spoilt = with_headers(row(4), &lane(4, 2, 0), &(0..64).map(|block| (block, [true; 2])).collect::<Vec<_>>());
+        assert_eq!(received(4, &spoilt).0.state.own, 0);
+    }
+
+    /// Blocks 4 to 6, 12 to 14 and 20 carry the command of CRC-3. In mode 5 it is all before block 27 but 3, 7, 11, 15, 19 and
+    /// 21 to 23.
+    #[test]
+    fn an_invalid_header_marks_a_command_by_its_width() {
+        for (mode, most, marks) in [(4, 0x7F, 0x0E0E_0800), (5, 0x7_FFFF, 0xEEEE_E8E0_u32)] {
+            let clean = lane(mode, 3, most);
+            for block in 0..32 {
+                let (_, lent) = received(mode, &with_headers(row(mode), &clean, &[(32 + block, [false; 2])]));
+                let marked = marks >> (31 - block) & 1 == 1;
+                assert_eq!((lent.commands[0], lent.commands[1] > most), (most, marked));
+                assert!(!marked || lent.commands[1] - most - 1 < most);
+            }
+        }
+    }
+
     /// Blocks 16 to 18, 20 and 24 to 26 carry the command.
     #[test]
     fn an_invalid_header_marks_its_command() {
@@ -357,7 +454,7 @@ mod tests {
 
     #[test]
     fn a_wrong_mark_or_fixed_bit_changes_only_the_count() {
-        for mode in 0..4 {
+        for mode in 0..6 {
             let clean = lane(mode, 4, 0);
             for block in [22, 27, 31] {
                 let spoilt = with_headers(row(mode), &clean, &[(32 * 2 + block, [false, false])]);
@@ -373,7 +470,7 @@ mod tests {
     /// multiblock 5 the first is 11.
     #[test]
     fn each_multiblock_has_its_own_count() {
-        for mode in 0..4 {
+        for mode in 0..6 {
             let whole = (32..64).map(|block| (block, [false; 2])).chain((64..96).map(|block| (block, [true; 2])));
             let headers: Vec<_> = whole.chain([(128, [false; 2]), (159, [true; 2]), (160, [true; 2])]).collect();
             let lane = with_headers(row(mode), &lane(mode, 6, 0), &headers);
@@ -390,8 +487,9 @@ mod tests {
 
     #[test]
     fn a_lane_cut_anywhere_releases_the_same() {
-        cut_anywhere(1);
-        cut_anywhere(3);
+        for mode in 0..6 {
+            cut_anywhere(mode);
+        }
     }
 
     fn cut_anywhere(mode: u8) {
@@ -429,18 +527,23 @@ mod tests {
     fn refusals_of_states() {
         let check = |mode, state, refusal| assert_eq!(refusal_of(mode, state, 0, Lent::room_for(0)), refusal);
         let waiting = || Receiver { waiting: true, octets: [9; 256], history: 5, trusted: true, ..Receiver::fresh() };
-        check(4, waiting(), 1);
+        check(6, waiting(), 1);
         check(255, waiting(), 1);
         check(0, waiting(), 0);
-        check(3, waiting(), 0);
+        check(5, waiting(), 0);
         check(0, Receiver { history: (1 << 58) - 1, ..waiting() }, 0);
         check(0, Receiver { history: 1 << 58, ..waiting() }, 3);
-        for (crc12, fec) in [(0, 1), (2, 3)] {
-            check(crc12, Receiver { command: 255, ..waiting() }, 0);
-            check(crc12, Receiver { command: 256, ..waiting() }, 3);
-            check(fec, Receiver { command: 1, ..waiting() }, 3);
+        for (mode, most) in [(0, 255), (1, 0), (2, 255), (3, 0), (4, 255), (5, 1_048_575)] {
+            check(mode, Receiver { command: most, ..waiting() }, 0);
+            check(mode, Receiver { command: most + 1, ..waiting() }, 3);
         }
-        for mode in 0..4 {
+        for (mode, most) in [(0, 0), (1, 0), (2, 0), (3, 0), (4, 511), (5, 0)] {
+            check(mode, Receiver { own: most, ..waiting() }, 0);
+            check(mode, Receiver { own: most + 1, ..waiting() }, 3);
+            check(mode, Receiver { own: u16::MAX, ..waiting() }, 3);
+            check(mode, Receiver { own: 1, ..Receiver::fresh() }, 3);
+        }
+        for mode in 0..6 {
             for (invalid, refusal) in [(1, 0), (32, 0), (33, 3), (255, 3)] {
                 check(mode, Receiver { invalid, ..waiting() }, refusal);
             }
@@ -463,9 +566,11 @@ mod tests {
         assert_eq!(refusal_of(3, Receiver::fresh(), 64_000, Lent::room_for(199)), 0);
         assert_eq!(refusal_of(3, Receiver::fresh(), 64_000, Lent::room_for(198)), 7);
         assert_eq!(refusal_of(3, Receiver::fresh(), 64_320, Lent::room_for(0)), 5);
-        assert_eq!(refusal_of(0, Receiver::fresh(), 264 * 240, Lent::room_for(239)), 0);
-        assert_eq!(refusal_of(0, Receiver::fresh(), 264 * 240, Lent::room_for(238)), 7);
-        assert_eq!(refusal_of(0, Receiver::fresh(), 264 * 241, Lent::room_for(0)), 5);
+        for mode in [0, 4, 5] {
+            assert_eq!(refusal_of(mode, Receiver::fresh(), 264 * 240, Lent::room_for(239)), 0);
+            assert_eq!(refusal_of(mode, Receiver::fresh(), 264 * 240, Lent::room_for(238)), 7);
+            assert_eq!(refusal_of(mode, Receiver::fresh(), 264 * 241, Lent::room_for(0)), 5);
+        }
         assert_eq!(refusal_of(0, waiting(), 0, Lent::room_for(0)), 0);
         assert_eq!(refusal_of(0, waiting(), 264, Lent::room_for(0)), 7);
         let room = || Lent::room_for(1);
@@ -481,7 +586,7 @@ mod tests {
     #[test]
     fn the_lowest_number_wins() {
         let bad = || Receiver { history: 1, ..Receiver::fresh() };
-        assert_eq!(refusal_of(4, bad(), 1, Lent::room_for(0)), 1);
+        assert_eq!(refusal_of(6, bad(), 1, Lent::room_for(0)), 1);
         assert_eq!(refusal_of(1, bad(), 1, Lent::room_for(0)), 3);
         assert_eq!(refusal_of(1, Receiver::fresh(), 264 * 241 + 1, Lent::room_for(0)), 4);
         assert_eq!(refusal_of(1, Receiver::fresh(), 264 * 241, Lent::room_for(0)), 5);

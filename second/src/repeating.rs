@@ -9,7 +9,7 @@ use crate::lock::{Between, Lock};
 use crate::locking::{both_are_held, next, sent_headers, TABLES};
 use crate::mode::{BLOCKS, USER_OCTETS};
 use crate::scrambler::descramble;
-use crate::sync::{self, Fields};
+use crate::sync::{self, Fields, NOTHING};
 
 /// In multiblocks.
 const LANE: usize = 40;
@@ -23,14 +23,14 @@ fn scrambled(number: u32) -> Vec<u8> {
 
 /// The blocks of a multiblock in which a pilot ends that stands in its parity alone, before the end mark.
 fn pilots(parity: u32) -> Vec<usize> {
-    let word = sync::FEC.word(Fields { parity, command: 0, mark: false });
+    let word = sync::FEC.word(Fields { before: parity, ..NOTHING });
     let carried = bits::of_number(u64::from(word), BLOCKS);
     let ends = |last: &usize| carried[last - 9] && carried[last - 4..=*last] == [false, false, false, false, true];
     (9..PARITY_BLOCKS).filter(ends).collect()
 }
 
 fn least() -> u32 {
-    let has_one = |number: &u32| !pilots(code::FEC.parity(&scrambled(*number))).is_empty();
+    let has_one = |number: &u32| !pilots(code::FEC.of_octets(&scrambled(*number))).is_empty();
     (1..=u32::MAX).find(has_one).expect("some parity has a pilot")
 }
 
@@ -68,7 +68,7 @@ fn line(name: &str, between: Between, e: u32, headers: &[u8]) -> String {
 
 pub fn lines() -> Vec<String> {
     let number = least();
-    let parity = code::FEC.parity(&scrambled(number));
+    let parity = code::FEC.of_octets(&scrambled(number));
     let head = format!("FEC, every multiblock the scrambled octets 00 but for the last four, {number:08X}:");
     let pilots: Vec<String> = pilots(parity).iter().map(usize::to_string).collect();
     let facts =
@@ -93,9 +93,9 @@ mod tests {
     #[test]
     fn the_lane_repeats() {
         let headers = lane(least(), 2);
-        let parity = code::FEC.parity(&scrambled(least()));
+        let parity = code::FEC.of_octets(&scrambled(least()));
         assert_eq!(headers.len(), 32 * LANE);
-        let words: Vec<u32> = headers.chunks(32).map(|values| sync::FEC.parity(&Headers::of(values))).collect();
+        let words: Vec<u32> = headers.chunks(32).map(|values| sync::FEC.before(&Headers::of(values))).collect();
         assert!(words[0] == 0 && words[1..].iter().all(|word| *word == parity));
     }
 

@@ -1,12 +1,12 @@
-//! The sender, bit by bit (document 01, "From octets to lane bits" and "Numbers of refusal"). The parity in a sync word
-//! belongs to the multiblock before it; the end mark is 1 in the last of E multiblocks. The register of the fill bits runs
-//! on across multiblocks and calls (document 02, request 2).
+//! The sender, bit by bit (document 01, "From octets to lane bits" and "Numbers of refusal"). The state has the parity that
+//! goes with the next sync word, which is that of the last group of the multiblock before; the other groups' goes with their
+//! own (code.rs). The end mark is 1 in the last of E multiblocks. The register of the fill bits runs on across multiblocks
+//! and calls (document 02, request 2).
 
 use crate::bits;
 use crate::fill;
 use crate::frame;
 use crate::mode::{is_extent, mode, Mode, BLOCKS, USER_OCTETS};
-use crate::polynomial::Polynomial;
 use crate::scrambler::{Scrambler, HISTORY_BITS};
 use crate::sync::Fields;
 
@@ -40,11 +40,11 @@ impl Sender {
     fn send_one(self, mode: &Mode, e: u32, user: &[u8], command: u32) -> (Sender, Vec<bool>) {
         let mut scrambler = Scrambler::after(self.history);
         let sent = scrambler.scramble(user);
-        let code = mode.word.code;
-        let word = mode.word.layout.word(Fields { parity: self.parity, command, mark: self.number == e - 1 });
+        let (own, parity) = mode.word.code.apart(mode.word.code.parity(&sent));
+        let word = mode.word.layout.word(Fields { before: self.parity, own, command, mark: self.number == e - 1 });
         let after = Sender {
             history: scrambler.history(),
-            parity: code.remainder(&Polynomial::of_bits(&sent).times_power(code.width())),
+            parity,
             number: (self.number + 1) % e,
             fill: fill::after(mode, self.fill, BLOCKS),
         };
@@ -61,7 +61,7 @@ fn refusal(number: u8, e: u32, state: Sender, user: &[u8], commands: &[u32], lan
         (3, !state.is_in_range(mode, e)),
         (4, !user.len().is_multiple_of(USER_OCTETS)),
         (5, multiblocks > mode.most),
-        (6, commands.len() != multiblocks || commands.iter().any(|command| *command > mode.word.highest_command)),
+        (6, commands.len() != multiblocks || commands.iter().any(|command| *command > mode.word.highest_command())),
         (7, lane.len() < mode.lane_octets() * multiblocks),
     ];
     refused.iter().find(|(_, applies)| *applies).map_or(0, |(number, _)| *number)
@@ -112,14 +112,42 @@ mod tests {
             let mut lane = vec![0; 2 * row(mode).lane_octets()];
             let sent = send(mode, 2, Sender::fresh(), &[7; 512], &[0x41, 0x7F], &mut lane);
             let [first, second] = &multiblocks(mode, &lane)[..] else { panic!() };
-            let word = sync::CRC12.word(sync::Fields { parity: 0, command: 0x41, mark: false });
+            let word = sync::CRC12.word(sync::Fields { command: 0x41, ..sync::NOTHING });
             assert_eq!(first.headers, Headers::carrying(word));
-            assert_eq!(sync::CRC12.parity(&second.headers), code::CRC12.parity(&bits::octets(&first.data)));
+            assert_eq!(sync::CRC12.before(&second.headers), code::CRC12.parity(&first.data));
             assert!(second.headers.at(22).carries());
-            assert_eq!(sent.state.parity, code::CRC12.parity(&bits::octets(&second.data)));
+            assert_eq!(sent.state.parity, code::CRC12.parity(&second.data));
             assert_eq!(sent.state.history, bits::number(&second.data[1990..]));
             assert_eq!((sent.refusal, sent.count, sent.state.number), (0, 2, 0));
         }
+    }
+
+    /// CRC-A is that of blocks 24 to 31 of the multiblock before; B, C and D those of its own (Table 44).
+    #[test]
+    fn a_word_of_crc3_carries_parity_of_two_multiblocks() {
+        let user: Vec<u8> = (0..768_u32).map(|k| (k * k / 9) as u8).collect();
+        let mut lane = vec![0; 3 * 264];
+        let sent = send(4, 1, Sender { parity: 5, ..Sender::fresh() }, &user, &[1, 2, 3], &mut lane);
+        let seen = multiblocks(4, &lane);
+        let of_blocks =
+            |k: usize, first: usize| code::CRC3.of_octets(&bits::octets(&seen[k].data)[8 * first..8 * (first + 8)]);
+        let own = |k: usize| of_blocks(k, 0) << 6 | of_blocks(k, 8) << 3 | of_blocks(k, 16);
+        for (k, multiblock) in seen.iter().enumerate() {
+            assert_eq!(sync::CRC3.before(&multiblock.headers), if k == 0 { 5 } else { of_blocks(k - 1, 24) });
+            assert_eq!(sync::CRC3.own(&multiblock.headers), own(k));
+            assert_eq!(sync::CRC3.command(&multiblock.headers), k as u32 + 1);
+        }
+        assert_eq!((sent.state.parity, own(0) != own(1) && own(1) != own(2)), (of_blocks(2, 24), true));
+    }
+
+    #[test]
+    fn a_word_of_mode_5_carries_its_command_alone() {
+        let mut lane = vec![0; 2 * 264];
+        let sent = send(5, 2, Sender::fresh(), &[7; 512], &[0x7_FFFF, 0x4_0001], &mut lane);
+        let words = [(0x7_FFFF, false), (0x4_0001, true)]
+            .map(|(command, mark)| sync::COMMAND.word(sync::Fields { command, mark, ..sync::NOTHING }));
+        let headers: Vec<Headers> = multiblocks(5, &lane).into_iter().map(|multiblock| multiblock.headers).collect();
+        assert_eq!((headers, sent.state.parity), (Vec::from(words.map(Headers::carrying)), 0));
     }
 
     /// The same sync words and scrambled bits, whatever the width and the register.
@@ -141,7 +169,7 @@ mod tests {
 
     #[test]
     fn the_end_mark_is_in_every_last() {
-        for mode in [1, 3] {
+        for mode in [1, 3, 4, 5] {
             let mut lane = vec![0; row(mode).lane_octets() * 7];
             let sent = send(mode, 3, Sender { number: 1, ..Sender::fresh() }, &[0; 256 * 7], &[0; 7], &mut lane);
             let marked = |multiblock: &Multiblock| u8::from(multiblock.headers.at(22).carries());
@@ -153,7 +181,7 @@ mod tests {
     #[test]
     fn a_lane_cut_into_calls_is_the_same() {
         let user: Vec<u8> = (0..1024_u32).map(|k| (k * k / 3) as u8).collect();
-        for mode in [1, 3] {
+        for mode in [1, 3, 4, 5] {
             let octets = row(mode).lane_octets();
             let mut whole = vec![0; 4 * octets];
             let all = send(mode, 3, Sender::fresh(), &user, &[0; 4], &mut whole);
@@ -179,25 +207,29 @@ mod tests {
     #[test]
     fn refusals_at_their_edges() {
         let fresh = Sender::fresh();
-        assert_eq!([3, 4, 255].map(|mode| refusal_of(mode, 1, fresh, 0, &[], 0)), [0, 1, 1]);
+        assert_eq!([5, 6, 255].map(|mode| refusal_of(mode, 1, fresh, 0, &[], 0)), [0, 1, 1]);
         assert_eq!([0, 1, 256, 257].map(|e| refusal_of(0, e, fresh, 0, &[], 0)), [2, 0, 0, 2]);
         for (history, refused) in [((1 << 58) - 1, 0), (1 << 58, 3)] {
             assert_eq!(refusal_of(0, 1, Sender { history, ..fresh }, 0, &[], 0), refused);
         }
-        for (number, parity, refused) in [(0, 0xFFF, 0), (0, 0x1000, 3), (1, 0x3FF_FFFF, 0), (1, 0x400_0000, 3)] {
-            for mode in [number, number + 2] {
+        for (mode, most) in [(0, 0xFFF), (1, 0x3FF_FFFF), (2, 0xFFF), (3, 0x3FF_FFFF), (4, 7), (5, 0)] {
+            for (parity, refused) in [(most, 0), (most + 1, 3), (u32::MAX, 3)] {
                 assert_eq!(refusal_of(mode, 1, Sender { parity, ..fresh }, 0, &[], 0), refused);
             }
         }
-        for (fill, refused) in [(0, [0; 4]), (1, [3, 3, 0, 0]), (131_070, [3, 3, 0, 0]), (131_071, [3; 4])] {
-            assert_eq!([0, 1, 2, 3].map(|mode| refusal_of(mode, 1, Sender { fill, ..fresh }, 0, &[], 0)), refused);
+        let wide = [3, 3, 0, 0, 3, 3];
+        for (fill, refused) in [(0, [0; 6]), (1, wide), (131_070, wide), (131_071, [3; 6])] {
+            let of_mode = |mode| refusal_of(mode, 1, Sender { fill, ..fresh }, 0, &[], 0);
+            assert_eq!([0, 1, 2, 3, 4, 5].map(of_mode), refused);
         }
         for (e, number, refused) in [(1, 0, 0), (1, 1, 3), (256, 255, 0), (256, 256, 3)] {
             assert_eq!(refusal_of(0, e, Sender { number, ..fresh }, 0, &[], 0), refused);
         }
         assert_eq!([255, 256, 257].map(|user| refusal_of(0, 1, fresh, user, &[0], 264)), [4, 0, 4]);
-        assert_eq!(refusal_of(0, 1, fresh, 256 * 240, &[0; 240], 264 * 240), 0);
-        assert_eq!(refusal_of(0, 1, fresh, 256 * 241, &[0; 241], 264 * 241), 5);
+        for mode in [0, 4, 5] {
+            assert_eq!(refusal_of(mode, 1, fresh, 256 * 240, &[0; 240], 264 * 240), 0);
+            assert_eq!(refusal_of(mode, 1, fresh, 256 * 241, &[0; 241], 264 * 241), 5);
+        }
         assert_eq!(refusal_of(2, 1, fresh, 256 * 200, &[0; 200], 320 * 200), 0);
         assert_eq!(refusal_of(2, 1, fresh, 256 * 201, &[0; 201], 320 * 201), 5);
         assert_eq!(
@@ -207,6 +239,8 @@ mod tests {
         assert_eq!([0, 1].map(|command| refusal_of(1, 1, fresh, 256, &[command], 264)), [0, 6]);
         assert_eq!([127, 128].map(|command| refusal_of(2, 1, fresh, 256, &[command], 320)), [0, 6]);
         assert_eq!([0, 1].map(|command| refusal_of(3, 1, fresh, 256, &[command], 320)), [0, 6]);
+        assert_eq!([127, 128].map(|command| refusal_of(4, 1, fresh, 256, &[command], 264)), [0, 6]);
+        assert_eq!([524_287, 524_288].map(|command| refusal_of(5, 1, fresh, 256, &[command], 264)), [0, 6]);
         assert_eq!([263, 264].map(|lane| refusal_of(0, 1, fresh, 256, &[0], lane)), [7, 0]);
         assert_eq!([319, 320].map(|lane| refusal_of(2, 1, fresh, 256, &[0], lane)), [7, 0]);
     }
@@ -214,7 +248,7 @@ mod tests {
     #[test]
     fn the_lowest_number_wins() {
         let bad = Sender { history: 1 << 58, ..Sender::fresh() };
-        assert_eq!(refusal_of(4, 0, bad, 1, &[128], 0), 1);
+        assert_eq!(refusal_of(6, 0, bad, 1, &[128], 0), 1);
         assert_eq!(refusal_of(1, 0, bad, 1, &[128], 0), 2);
         assert_eq!(refusal_of(1, 1, bad, 1, &[128], 0), 3);
         assert_eq!(refusal_of(1, 1, Sender::fresh(), 256 * 241 + 1, &[128], 0), 4);

@@ -1,7 +1,7 @@
-//! Table 37 of clause 7.2.4.2 and Tables 52, 54 and 55 of clauses 7.4.2 and 7.5.2: their source data, the values they
-//! print, and the values that the scrambler and long division give.
+//! Table 37 of clause 7.2.4.2 and Tables 52, 53, 54 and 55 of clauses 7.4.2, 7.4.3 and 7.5.2: their source data, the values
+//! they print, and the values that the scrambler and long division give.
 
-use crate::code::{Code, CRC12, FEC};
+use crate::code::{Code, CRC12, CRC3, FEC};
 use crate::scrambler::{Scrambler, INITIAL_ONE};
 
 /// The source data of Table 37.
@@ -12,7 +12,7 @@ const SOURCE_37: [[u8; 8]; 4] = [
     [0x18, 0x19, 0x1A, 0x1B, 0x1C, 0x1D, 0x1E, 0x1F],
 ];
 
-/// The source data of Tables 52 and 54.
+/// The source data of Tables 52, 53 and 54.
 pub const BLOCKS: [[u8; 8]; 4] = [
     [0x80, 0x01, 0x02, 0x03, 0x05, 0x05, 0x04, 0x23],
     [0x0E, 0x43, 0x80, 0xC2, 0x0B, 0x50, 0x81, 0xCD],
@@ -23,6 +23,7 @@ pub const BLOCKS: [[u8; 8]; 4] = [
 /// What the standard prints; of block 0 of Table 37 only seven octets.
 const PRINTED_37: [&str; 4] = ["80010203050423", "0E4380C20B5081CD", "04E783925A3CAA51", "054D87D9313D1151"];
 pub const PRINTED_52: [u32; 4] = [0xD00, 0x11C, 0xFE4, 0x5FE];
+const PRINTED_53: [u32; 4] = [0b011, 0b111, 0b010, 0b001];
 const PRINTED_54: [u32; 4] = [0x22A43C3, 0x05DFF66, 0x07171AB, 0x01957FD];
 const PRINTED_55: [u32; 3] = [0x235011A, 0x3C7FFE3, 0x0220211];
 
@@ -68,10 +69,10 @@ fn parity_value(code: &Code, computed: u32, printed: u32) -> String {
     value(&code.hexadecimal(computed), &code.hexadecimal(printed))
 }
 
-/// Row k of Tables 52 and 54 is the parity of blocks 0 to k.
+/// Row k of Tables 52, 53 and 54 is the parity of blocks 0 to k as one group.
 fn block_lines(table: u32, code: &Code, printed: &[u32]) -> Vec<String> {
     let line = |(row, printed): (usize, &u32)| {
-        let computed = code.parity(&blocks_to(row));
+        let computed = code.of_octets(&blocks_to(row));
         format!("table {table} block {row} {}", parity_value(code, computed, *printed))
     };
     printed.iter().enumerate().map(line).collect()
@@ -80,7 +81,7 @@ fn block_lines(table: u32, code: &Code, printed: &[u32]) -> Vec<String> {
 /// Row k of Table 55 is the parity of multiblock k.
 fn multiblock_lines() -> Vec<String> {
     let line = |(row, (octets, printed)): (usize, ([u8; 256], u32))| {
-        let computed = FEC.parity(&octets);
+        let computed = FEC.of_octets(&octets);
         format!("table 55 multiblock {row} {}", parity_value(&FEC, computed, printed))
     };
     multiblocks().into_iter().zip(PRINTED_55).enumerate().map(line).collect()
@@ -88,8 +89,9 @@ fn multiblock_lines() -> Vec<String> {
 
 pub fn lines() -> Vec<String> {
     let table_52 = block_lines(52, &CRC12, &PRINTED_52);
+    let table_53 = block_lines(53, &CRC3, &PRINTED_53);
     let table_54 = block_lines(54, &FEC, &PRINTED_54);
-    [scrambled_lines(), table_52, table_54, multiblock_lines()].concat()
+    [scrambled_lines(), table_52, table_53, table_54, multiblock_lines()].concat()
 }
 
 #[cfg(test)]
@@ -100,7 +102,7 @@ mod tests {
     fn only_two_rows_differ() {
         let lines = lines();
         let noted: Vec<&String> = lines.iter().filter(|line| line.contains("misprint")).collect();
-        assert_eq!(lines.len(), 15);
+        assert_eq!(lines.len(), 19);
         assert_eq!(
             noted,
             [
@@ -110,7 +112,7 @@ mod tests {
         );
     }
 
-    /// The scrambled data of Table 37 are the source data of Tables 52 and 54.
+    /// The scrambled data of Table 37 are the source data of Tables 52, 53 and 54.
     #[test]
     fn table_37_leads_to_table_52() {
         let mut scrambler = Scrambler::after(INITIAL_ONE);

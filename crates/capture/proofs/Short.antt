@@ -14,7 +14,7 @@ use Rattle.bits.specs.Order.{bitAt, laid}
 use Rattle.bits.specs.Refusals.{refusalBy}
 use Rattle.bits.proofs.Refusals.{none-left, passed, not-given}
 use Rattle.frame.specs.declared.modes.Sync.{Sync}
-use Rattle.frame.specs.declared.modes.Sync.the-variants.{Crc12, Fec}
+use Rattle.frame.specs.declared.modes.Sync.the-variants.{Crc12, Fec, Crc3, Command}
 use Rattle.frame.specs.declared.modes.Row.{Row}
 use Rattle.frame.specs.Modes.{code, repairs, row, mostOfAll}
 use Rattle.frame.proofs.Rows.{few, most-is, extent-within}
@@ -46,6 +46,8 @@ status-below n (inr h) = omega (arith, h .1)
 burst-below : (S : Sync) (place pattern : ℕ) → repairs S ≡ true → place < code S .positions → pattern < 2 ^ code S .limit → (place < 10000) × (pattern < 1000)
 burst-below Crc12 place pattern y h l = absurd (true≢false (sym y))
 burst-below Fec place pattern y h l = (omega arith, omega arith)
+burst-below Crc3 place pattern y h l = absurd (true≢false (sym y))
+burst-below Command place pattern y h l = absurd (true≢false (sym y))
 
 few-digits : (S : Sync) (r : Release) → Released S r → Few (r .status) (r .place) (r .pattern)
 few-digits S r k = by (ℕ-discrete (r .status % 4) 1)

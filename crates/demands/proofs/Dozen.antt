@@ -9,7 +9,7 @@ use Rattle.polynomial.specs.Polynomial.{scale, timesX}
 use Rattle.polynomial.specs.Remainder.{next, remainderFrom, remainder}
 use Rattle.parity.specs.Codeword.{Code, crc12, fec, parityOf}
 use Rattle.parity.proofs.Codeword.{leading-zeros}
-use Rattle.frame.specs.SyncWord.{held, syncWord}
+use Rattle.frame.specs.SyncWord.{held, wordBy}
 use Rattle.demands.specs.Dozen.{Case, Right, lastOctet, dozen}
 
 abbrev All : List Case → Type 0
@@ -21,7 +21,7 @@ last-alone : (C : Code) (octet : ℕ) → parityOf C (lastOctet octet) ≡ parit
 last-alone C octet = leading-zeros C 255 (octet ∷ [])
 
 computed : All dozen
-unfolding scrambled octetsOf number sent allSent sentBit bitAt listFrom bitsOf parityOf remainder remainderFrom next scale timesX syncWord held
+unfolding scrambled octetsOf number sent allSent sentBit bitAt listFrom bitsOf parityOf remainder remainderFrom next scale timesX wordBy held
 computed = (
   refl,
   (

@@ -11,10 +11,10 @@ use Rattle.bits.specs.Order.{bitAt, laid}
 use Rattle.bits.proofs.Octets.{bit-drop, bit-append}
 use Rattle.bits.proofs.Laid.{taken-back}
 use Rattle.frame.specs.declared.modes.Row.{Row}
-use Rattle.frame.specs.Modes.{row, parity, command}
+use Rattle.frame.specs.Modes.{Whose, before, own, parity, command, layout, row, parityWidth}
 use Rattle.frame.specs.Lane.{laneOctets, headerPlace, dataPlace, dataBit, headerAt, syncBit, invalidHeaders}
-use Rattle.frame.specs.SyncWord.{readParity, flaggedCommand}
-use Rattle.frame.proofs.SyncWord.{Stands, place, all-stand, only-parity, only-flagged}
+use Rattle.frame.specs.SyncWord.{readParity, readParts, flaggedCommand}
+use Rattle.frame.proofs.SyncWord.{Stands, place, all-stand, only-there, only-flagged}
 use Rattle.frame.proofs.Lane.{laneFrom, same-sync, same-invalid}
 use Rattle.frame.proofs.Places.{data-is, header-same}
 use Rattle.frame.proofs.Sizes.{octets-some}
@@ -58,7 +58,7 @@ module _ (mode : ℕ) where
         header-same (R .gap) (bitAt (a ++ b)) (bitAt a) m t (same (headerPlace (R .gap) m t) m h (omega arith)) (same (headerPlace (R .gap) m t + 1) m h inside)
 
     prefix : (s : Receiver) → run R (bitAt (a ++ b)) s k ≡ run R (bitAt a) s k
-    prefix s = same-reading R (bitAt (a ++ b)) (bitAt a) s k same-data same-parity same-command same-number
+    prefix s = same-reading R (bitAt (a ++ b)) (bitAt a) s k same-data same-parts same-command same-number
       where
         stands : Stands (R .sync)
         stands = all-stand (row mode .sync)
@@ -67,10 +67,13 @@ module _ (mode : ℕ) where
         same-data m q h l =
             data-is (R .gap) (bitAt (a ++ b)) m q ∙ same (dataPlace (R .gap) m q) m h (data-inside (R .gap) m q l) ∙ sym (data-is (R .gap) (bitAt a) m q)
 
-        same-parity : (m : ℕ) → m < k → readParity (R .sync) (syncBit (R .gap) (bitAt (a ++ b)) m) ≡ readParity (R .sync) (syncBit (R .gap) (bitAt a) m)
-        same-parity m h =
-            only-parity (R .sync) _ _
-            (λ j l. same-sync (R .gap) (bitAt (a ++ b)) (bitAt a) m (place (R .sync) (parity j)) (same-header m (place (R .sync) (parity j)) h (stands .parities j l)))
+        same-part : (whose : Whose) (m : ℕ) → m < k → readParity (R .sync) whose (syncBit (R .gap) (bitAt (a ++ b)) m) ≡ readParity (R .sync) whose (syncBit (R .gap) (bitAt a) m)
+        same-part whose m h =
+            only-there (layout (R .sync)) (parity whose) (parityWidth (R .sync) whose) _ _
+            (λ j l. same-sync (R .gap) (bitAt (a ++ b)) (bitAt a) m (place (R .sync) (parity whose j)) (same-header m (place (R .sync) (parity whose j)) h (stands .parities whose j l)))
+
+        same-parts : (m : ℕ) → m < k → readParts (R .sync) (syncBit (R .gap) (bitAt (a ++ b)) m) ≡ readParts (R .sync) (syncBit (R .gap) (bitAt a) m)
+        same-parts m h = ap₂ (λ (x y : ℕ). record { before = x; own = y }) (same-part before m h) (same-part own m h)
 
         same-command : (m : ℕ) → m < k → flaggedCommand (R .sync) (headerAt (R .gap) (bitAt (a ++ b)) m) ≡ flaggedCommand (R .sync) (headerAt (R .gap) (bitAt a) m)
         same-command m h =

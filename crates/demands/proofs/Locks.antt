@@ -1,7 +1,7 @@
--- The headers of a lane that our sender made are those of an undamaged CRC-12 lane, so that the locks go along it as along any such lane: document
--- 01, "Lock tables". Past the lane's end they are gone on with as if commands and parities were 0. Assumes nothing.
+-- The headers of a lane that our sender made, with any sync words but FEC's, have the pilot bits of an undamaged one, so that the locks go along it
+-- as along any such lane: document 01, "Lock tables"; request 5. Past the lane's end they are gone on with as if commands and parities were 0. Assumes nothing.
 use mathlib.Core.Path.{_≡_, refl, sym, ap, _∙_, subst}
-use mathlib.Core.Bool.{true}
+use mathlib.Core.Bool.{true, false}
 use mathlib.Core.List.{List}
 use Prim.Native.Nat.{ℕ, _+_, _-_, _*_, _/_, _%_, _<_, _≤_}
 use native.Mathlib.Nat.{mod-lt, mul-assoc, le-of-mul-le-mul-left}
@@ -11,9 +11,9 @@ use lib.Dec.{eqb}
 use lib.ListN.{length, getD}
 use Rattle.bits.specs.Choice.{bitOf}
 use Rattle.frame.specs.declared.modes.Sync.{Sync}
-use Rattle.frame.specs.declared.modes.Sync.the-variants.{Crc12}
+use Rattle.frame.specs.declared.sync.Parts.{Parts}
 use Rattle.frame.specs.declared.modes.Row.{Row}
-use Rattle.frame.specs.Modes.{known, row, extentFits}
+use Rattle.frame.specs.Modes.{known, row, repairs, extentFits}
 use Rattle.frame.specs.Headers.{headerRead, carries, headerOf}
 use Rattle.frame.specs.Lane.{blockWidth, laneOctets}
 use Rattle.frame.specs.SyncWord.{held}
@@ -25,23 +25,27 @@ use Rattle.sender.specs.declared.Sender.{Sender}
 use Rattle.sender.specs.Lane.{lane, last}
 use Rattle.sender.proofs.States.{Fits}
 use Rattle.sender.proofs.Runs.{lane-length}
-use Rattle.sender.proofs.Multiblocks.{before, number-before, value-sent}
+use Rattle.sender.proofs.Multiblocks.{before, carried as carriedParts, number-before, value-sent}
 use Rattle.lock.specs.declared.Lock.{Lock}
 use Rattle.lock.specs.Run.{stateAfter}
-use Rattle.lock.specs.Stream.{Crc12Headers}
+use Rattle.lock.specs.Stream.{PilotHeaders}
 use Rattle.lock.proofs.Words.{words-fit}
 use Rattle.lock.proofs.Runs.{state-same}
 use Rattle.demands.specs.Calls.{Sending, userOctets, AllSent, laneSent}
 use Rattle.demands.specs.Promises.{headersFrom}
 use Rattle.demands.proofs.Sent.{one-lane, allCommands}
 
-module _ (mode E : ℕ) (is-known : known mode ≡ true) (crc : row mode .sync ≡ Crc12) (s : Sender) (user commands : List ℕ)
+module _ (mode E : ℕ) (is-known : known mode ≡ true) (crc : repairs (row mode .sync) ≡ false) (s : Sender) (user commands : List ℕ)
     (given : 256 * length commands ≤ length user) (fits : Fits (row mode) E s) (some : 1 ≤ E) (few : E ≤ 256) (p : ℕ) where
   abbrev R : Row
   R = row mode
 
   abbrev state : ℕ → Sender
   state i = before R E s user commands given i
+
+  -- the parities that its sync words carry
+  abbrev parts : ℕ → Parts
+  parts i = carriedParts R E s user commands given i
 
   -- the lane's first multiblock has the sender's number, so that all are counted from there
   start : ℕ
@@ -53,18 +57,18 @@ module _ (mode E : ℕ) (is-known : known mode ≡ true) (crc : row mode .sync �
   sync : ℕ → ℕ
   sync x =
       let m = (x + start) / 32 in
-      held (state (m - s .number) .parity) (getD commands (m - s .number) 0) (mark m) (fieldAt Crc12 ((x + start) % 32))
+      held (parts (m - s .number)) (getD commands (m - s .number) 0) (mark m) (fieldAt (R .sync) ((x + start) % 32))
 
   sync-lt : (x : ℕ) → sync x < 2
   unfolding sync
-  sync-lt x = held-lt _ _ _ (fieldAt Crc12 ((x + start) % 32))
+  sync-lt x = held-lt _ _ _ (fieldAt (R .sync) ((x + start) % 32))
 
-  undamaged : Crc12Headers E start (λ x. headerOf (sync x))
+  undamaged : PilotHeaders E start (λ x. headerOf (sync x))
   unfolding sync mark
   undamaged = record {
     valid = λ x. header-valid (sync x) (sync-lt x);
     sync =
-        words-fit E start some (λ m. state (m - s .number) .parity) (λ m. getD commands (m - s .number) 0) mark (λ x. carries (headerRead (headerOf (sync x))))
+        words-fit (R .sync) crc E start some (λ m. parts (m - s .number)) (λ m. getD commands (m - s .number) 0) mark (λ x. carries (headerRead (headerOf (sync x))))
         (λ m e. ap bitOf (eq-eqb (m % E + 1) E (omega arith)))
         (λ m e. ap bitOf (ne-eqb (m % E + 1) E (λ z. e (omega arith))))
         (λ x. carried (sync x) (sync-lt x));
@@ -80,18 +84,17 @@ module _ (mode E : ℕ) (is-known : known mode ≡ true) (crc : row mode .sync �
       let counted : (x + (p + 32 * s .number)) / 32 - s .number ≡ m = omega arith in
       let position : (x + (p + 32 * s .number)) % 32 ≡ t = omega arith in
       value-sent R E s user commands given m t (omega arith) (mod-lt (p + x) (omega arith))
-      ∙ ap (λ (S : Sync). headerOf (held (state m .parity) (getD commands m 0) (bitOf (last E (state m))) (fieldAt S t))) crc
       ∙ rw (counted, position, there, ← number-before R E s user commands given (fits .number) m (omega arith)) refl
 
-  along : (P : ℕ → Lock → Type 0) → ((q : ℕ) (headers : ℕ → ℕ) → extentFits E ≡ true → Crc12Headers E q headers → (n : ℕ) → P n (stateAfter mode E headers n))
+  along : (P : ℕ → Lock → Type 0) → ((q : ℕ) (headers : ℕ → ℕ) → extentFits E ≡ true → PilotHeaders E q headers → (n : ℕ) → P n (stateAfter mode E headers n))
       → (n : ℕ) → p + n ≤ 32 * length commands → P n (stateAfter mode E (headersFrom (R .gap) (lane R E s user commands) p) n)
   along P holds n inside =
       subst (P n) (sym (state-same mode E (headersFrom (R .gap) (lane R E s user commands) p) (λ x. headerOf (sync x)) n (λ x l. own x (omega arith))))
       (holds start (λ x. headerOf (sync x)) (extent-fits E some few) undamaged n)
 
 -- what holds of the locks after the blocks of every undamaged CRC-12 lane holds after those of the one that calls of our sender made
-pub along-lane : (mode E : ℕ) → known mode ≡ true → row mode .sync ≡ Crc12 → (s : Sender) (calls : List Sending) → AllSent mode E s calls
-    → (P : ℕ → Lock → Type 0) → ((q : ℕ) (headers : ℕ → ℕ) → extentFits E ≡ true → Crc12Headers E q headers → (n : ℕ) → P n (stateAfter mode E headers n))
+pub along-lane : (mode E : ℕ) → known mode ≡ true → repairs (row mode .sync) ≡ false → (s : Sender) (calls : List Sending) → AllSent mode E s calls
+    → (P : ℕ → Lock → Type 0) → ((q : ℕ) (headers : ℕ → ℕ) → extentFits E ≡ true → PilotHeaders E q headers → (n : ℕ) → P n (stateAfter mode E headers n))
     → (p n : ℕ) → 1 ≤ n → blockWidth (row mode .gap) * (p + n) ≤ 8 * length (laneSent mode E s calls)
     → P n (stateAfter mode E (headersFrom (row mode .gap) (laneSent mode E s calls) p) n)
 along-lane mode E is-known crc s calls h P holds p n more inside =

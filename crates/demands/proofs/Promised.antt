@@ -1,17 +1,19 @@
 -- The promises of specs/Promises.antt, proved, in the same order. Assumes nothing.
 use mathlib.Core.Path.{_≡_, refl, sym, ap, _∙_, subst}
 use mathlib.Core.Logic.{_⊎_, ⊎-elim, inl, inr}
-use mathlib.Core.Bool.{Bool, true, false}
-use mathlib.Core.List.{List}
+use mathlib.Core.Bool.{Bool, true, false, true≢false}
+use mathlib.Core.List.{List, []}
 use Prim.Native.Nat.{ℕ, zero, suc, _+_, _*_, _<_, _≤_}
-use native.Mathlib.Nat.{mul-le-mul-left, le-of-mul-le-mul-left}
+use native.Mathlib.Nat.{mul-le-mul-left, le-refl, le-of-mul-le-mul-left}
 use native.Mathlib.Omega.{arith}
+use borrow.Author.Tests.{ltb-true, ltb-false}
 use lib.Bits.{xor-lt}
 use lib.ListN.{length}
 use Rattle.bits.specs.Order.{bitAt, listFrom}
 use Rattle.bits.proofs.Numbers.{bitAt-lt}
 use Rattle.bits.proofs.Ones.{ones-none}
-use Rattle.frame.specs.Modes.{code, repairs, row}
+use Rattle.frame.specs.declared.modes.Sync.{Sync}
+use Rattle.frame.specs.Modes.{code, repairs, checks, row}
 use Rattle.fill.specs.Register.{shifts}
 use Rattle.frame.specs.Lane.{blockWidth, laneOctets, headerPlace, dataPlace, fillPlace}
 use Rattle.parity.proofs.Bursts.{one-burst}
@@ -20,12 +22,13 @@ use Rattle.frame.proofs.Reading.{invalid-flips}
 use Rattle.fill.proofs.Registers.{moves}
 use Rattle.frame.proofs.Sizes.{octets-some}
 use Rattle.frame.proofs.Lane.{fill-bound}
-use Rattle.frame.proofs.Rows.{limit-some}
+use Rattle.frame.proofs.Rows.{limit-some, one-group}
 use Rattle.sender.proofs.Runs.{lane-length}
 use Rattle.sender.proofs.Entry.{answered, fits}
 use Rattle.sender.proofs.Multiblocks.{fill-sent}
 use Rattle.receiver.proofs.Ignored.{gaps-ignored}
-use Rattle.judge.specs.Sound.{sound}
+use Rattle.judge.specs.Sound.{sound, soundness}
+use Rattle.judge.proofs.Judging.{called-sound}
 use Rattle.lock.specs.declared.Lock.{Lock}
 use Rattle.lock.specs.Stream.{Held}
 use Rattle.lock.proofs.Runs.{state-none}
@@ -33,18 +36,22 @@ use Rattle.lock.proofs.Bound.{locked-in-time, nothing-kept}
 use Rattle.lock.proofs.Kept.{goes-on, stays-apart, kept-followed}
 use Rattle.demands.specs.Calls.{userOctets, laneSent, laneHeard}
 use Rattle.demands.specs.Transfer.{Transfer, flips, DamagedBy, Untouched, releases, released, status, given, headerFlips}
-use Rattle.demands.specs.Promises.{Limits, FecDelivers, CrcTellsHits, CrcUntouchedSound, SoundTrue, FecSoundTrue, CrcSoundTrue, InvalidTold, InvalidByFlips, UntouchedValid, FillIgnored, FillByTable, NeverStill, BurstsByPairs, OneBurst, OneSet, LocksInTime, NothingKept, LocksGoOn, NeverMeet, KeptFollowed, headersFrom, DozenRight}
+use Rattle.demands.specs.Promises.{Limits, Kinds, FecDelivers, CrcTellsHits, CrcUntouchedSound, SoundTrue, FecSoundTrue, CrcSoundTrue, UncheckedNeverSound, UndamagedDelivers, InvalidTold, InvalidByFlips, UntouchedValid, FillIgnored, FillByTable, NeverStill, BurstsByPairs, OneBurst, OneSet, LocksInTime, NothingKept, LocksGoOn, NeverMeet, KeptFollowed, headersFrom, DozenRight}
 use Rattle.demands.proofs.Places.{header-inside, header-from-start}
 use Rattle.demands.proofs.Sent.{allCommands, one-lane}
 use Rattle.demands.proofs.Pairs.{pairs, in-bursts}
 use Rattle.demands.proofs.Locks.{along-lane}
 use Rattle.demands.proofs.Dozen.{all-right}
-use Rattle.demands.proofs.Delivered.{Lanes, Right, repairs-right, next-octet, hit-status, sound-octet, untouched-status}
-use Rattle.demands.proofs.Released.{before, after, count, sends-them, lanes, all-released, status-at, invalid-at, octet-released}
+use Rattle.demands.proofs.Delivered.{Lanes, Right, repairs-right, untouched-right, next-octet, hit-status, sound-octet, untouched-status, unchecked-status}
+use Rattle.demands.proofs.Released.{before, after, count, sends-them, heard-up-to, lanes, all-released, status-at, invalid-at, octet-released}
 
 pub limits : Limits
 unfolding listFrom row laneOctets blockWidth
 limits = (refl, refl)
+
+pub kinds : Kinds
+unfolding listFrom row
+kinds = (refl, refl)
 
 -- ---- any mode, with bursts no longer than its limit and as far apart as two multiblocks
 
@@ -53,23 +60,32 @@ module _ {mode E : ℕ} (t : Transfer mode E) {limit clear : ℕ} (damaged : Dam
   abbrev heard : Lanes (row mode)
   heard = lanes t limit clear some far damaged
 
-  -- with a code that repairs
-  module _ (mends : repairs (row mode .sync) ≡ true) where
-    right : (i : ℕ) → suc i < count t → Right (row mode) heard i
-    right i l = repairs-right (row mode) heard i l within mends
+  -- with a code
+  module _ (checked : 0 < code (row mode .sync) .groups) where
+    -- that repairs
+    module _ (mends : repairs (row mode .sync) ≡ true) where
+      right : (i : ℕ) → suc i < count t → Right (row mode) heard i
+      right i l = repairs-right (row mode) heard i l checked within mends
 
-    delivered : (i j : ℕ) → 1 ≤ i → i < releases t → j < 256 → released t i j ≡ given t i j
-    delivered zero j h l m = absurd (omega arith)
-    delivered (suc i) j h l m =
-        let next = all-released t (suc i) l in
-        octet-released t (suc i) next j m ∙ next-octet (row mode) heard (t .octets) i j (right i (omega arith)) (right (suc i) next) m
+      delivered : (i j : ℕ) → 1 ≤ i → i < releases t → j < 256 → released t i j ≡ given t i j
+      delivered zero j h l m = absurd (omega arith)
+      delivered (suc i) j h l m =
+          let next = all-released t (suc i) l in
+          octet-released t (suc i) next j m ∙ next-octet (row mode) heard (t .octets) i j (right i (omega arith)) (right (suc i) next) m
 
-  -- with a code that only notices
-  tells : repairs (row mode .sync) ≡ false → (i q : ℕ) → i < releases t → q < 2048 → flips t (dataPlace (row mode .gap) i q) ≡ 1 → (status t i ≡ 2) ⊎ (status t i ≡ 6)
-  tells notices i q l h e =
-      let next = all-released t i l in
-      let is = status-at t i next in
-      ⊎-elim (λ z. inl (is ∙ z)) (λ z. inr (is ∙ z)) (hit-status (row mode) heard (t .octets) within notices i q next h e)
+    -- that only notices
+    tells : repairs (row mode .sync) ≡ false → (i q : ℕ) → i < releases t → q < 2048 → flips t (dataPlace (row mode .gap) i q) ≡ 1 → (status t i ≡ 2) ⊎ (status t i ≡ 6)
+    tells notices i q l h e =
+        let next = all-released t i l in
+        let is = status-at t i next in
+        ⊎-elim (λ z. inl (is ∙ z)) (λ z. inr (is ∙ z)) (hit-status (row mode) heard (t .octets) checked within notices i q next h e)
+
+    -- either
+    sound-true : (i j : ℕ) {k : ℕ} → i < releases t → j < 256 → soundness (row mode .sync) (status t i) k ≡ sound → k ≤ j → released t i j ≡ given t i j
+    sound-true i j {k} l h e m =
+        let next = all-released t i l in
+        octet-released t i next j h
+        ∙ sound-octet (row mode) heard (t .octets) checked within i k j next m h (ap (λ (x : ℕ). soundness (row mode .sync) x k) (sym (status-at t i next)) ∙ e)
 
   untouched-sound : (i : ℕ) {a b : ℕ} → suc i < releases t → Untouched t a b → a ≤ i → i + 3 ≤ b → status t (suc i) ≡ 0
   untouched-sound i {a} {b} l u first last =
@@ -79,32 +95,68 @@ module _ {mode E : ℕ} (t : Transfer mode E) {limit clear : ℕ} (damaged : Dam
       status-at t (suc i) next
       ∙ untouched-status (row mode) heard (t .octets) i next (λ x p q. u x (omega arith) (omega arith))
 
-  -- with either
-  sound-true : (i j : ℕ) {k : ℕ} → i < releases t → j < 256 → sound (status t i) k ≡ true → k ≤ j → released t i j ≡ given t i j
-  sound-true i j {k} l h e m =
-      let next = all-released t i l in
-      octet-released t i next j h
-      ∙ sound-octet (row mode) heard (t .octets) within i k j next m h (ap (λ (x : ℕ). sound x k) (sym (status-at t i next)) ∙ e)
+-- a code that repairs, or checks, has groups
+has-groups : (S : Sync) → checks S ≡ true → 0 < code S .groups
+has-groups S e = ltb-true 0 (code S .groups) e
+
+mends-groups : (S : Sync) → repairs S ≡ true → 0 < code S .groups
+mends-groups S e = omega (arith, one-group S e)
 
 pub fec-delivers : FecDelivers
-fec-delivers mode E mends t damaged i j after-first l m = delivered t damaged (omega (arith, limit-some (row mode .sync))) (omega arith) (omega arith) mends i j (omega arith) l m
+fec-delivers mode E mends t damaged i j after-first l m =
+    let some = mends-groups (row mode .sync) mends in
+    delivered t damaged (omega (arith, limit-some (row mode .sync) some)) (omega arith) (omega arith) some mends i j (omega arith) l m
 
 pub crc-tells-hits : CrcTellsHits
-crc-tells-hits mode E notices t damaged i q l h e = tells t damaged (omega (arith, limit-some (row mode .sync))) (omega arith) (omega arith) notices i q l h e
+crc-tells-hits mode E notices t damaged i q l h e =
+    let some = has-groups (row mode .sync) (notices .0) in
+    tells t damaged (omega (arith, limit-some (row mode .sync) some)) (omega arith) (omega arith) some (notices .1) i q l h e
 
 pub crc-untouched-sound : CrcUntouchedSound
 crc-untouched-sound mode E notices t damaged zero after-first l u = absurd (omega arith)
 crc-untouched-sound mode E notices t damaged (suc i) after-first l u =
-    untouched-sound t damaged (omega (arith, limit-some (row mode .sync))) (omega arith) (omega arith) i l u (omega arith) (omega arith)
+    untouched-sound t damaged (omega (arith, limit-some (row mode .sync) (has-groups (row mode .sync) (notices .0)))) (omega arith) (omega arith) i l u (omega arith) (omega arith)
 
 all-sound-true : (repaired : Bool) → SoundTrue repaired
-all-sound-true repaired mode E _ t damaged i j l h e = sound-true t damaged (omega (arith, limit-some (row mode .sync))) (omega arith) (omega arith) i j l h e (omega arith)
+all-sound-true repaired mode E _ t damaged i j l h e =
+    let some = has-groups (row mode .sync) (called-sound (row mode .sync) (status t i) _ e .1) in
+    sound-true t damaged (omega (arith, limit-some (row mode .sync) some)) (omega arith) (omega arith) some i j l h e (omega arith)
 
 pub fec-sound-true : FecSoundTrue
 fec-sound-true = all-sound-true true
 
 pub crc-sound-true : CrcSoundTrue
 crc-sound-true = all-sound-true false
+
+-- ---- without a parity
+
+pub unchecked-never-sound : UncheckedNeverSound
+unchecked-never-sound mode E none = (statuses, λ status j e. true≢false (sym (called-sound (row mode .sync) status j e .1) ∙ none))
+  where
+    statuses : (t : Transfer mode E) (i : ℕ) → i < releases t → (i ≡ 0 → status t i ≡ 4) × (1 ≤ i → status t i ≡ 0)
+    statuses t i l =
+        let is = status-at t i (all-released t i l) in
+        let each = unchecked-status (row mode) (omega (arith, ltb-false 0 (code (row mode .sync) .groups) none)) (after t) i in
+        (λ e. is ∙ each .0 e, λ h. is ∙ each .1 h)
+
+pub undamaged-delivers : UndamagedDelivers
+undamaged-delivers mode E t clean i j l m =
+    octet-released t (suc i) next j m ∙ next-octet (row mode) heard (t .octets) i j (right i (omega (arith, next))) (right (suc i) next) m
+  where
+    next : suc (suc i) < count t
+    next = all-released t (suc i) l
+
+    -- no flip is in bursts of any kind
+    none : DamagedBy t 1 (16 * laneOctets (row mode .gap))
+    none = record { bursts = []; spaced = tt; covered = λ x h e. absurd (let z = clean x h in omega arith) }
+
+    heard : Lanes (row mode)
+    heard = lanes t 1 (16 * laneOctets (row mode .gap)) (omega arith) (le-refl _) none
+
+    right : (k : ℕ) → suc k < count t → Right (row mode) heard k
+    right k h =
+        untouched-right (row mode) heard k h (λ x a b.
+        clean x (omega (arith, heard-up-to t (k + 2) (omega arith))))
 
 -- ---- invalid headers
 

@@ -2,7 +2,7 @@
 use mathlib.Core.Path.{_≡_, refl, sym, ap, _∙_, subst}
 use mathlib.Core.List.{List}
 use Prim.Native.Nat.{ℕ, suc, _+_, _-_, _*_, _/_, _<_, _≤_}
-use native.Mathlib.Nat.{mul-add, mul-assoc, le-of-mul-le-mul-left}
+use native.Mathlib.Nat.{mul-add, mul-assoc, mul-le-mul-left, le-of-mul-le-mul-left}
 use native.Mathlib.Omega.{arith}
 use lib.ListN.{length, getD}
 use Rattle.bits.specs.Order.{bitAt}
@@ -57,6 +57,12 @@ module _ {mode E : ℕ} (t : Transfer mode E) where
 
   pub sends-them : Sends R (userOctets (t .sendings)) (t .start .history) (t .from) count before
   sends-them = sends mode E (t .start) (t .sendings) one (t .from) count enough
+
+  -- the lane bits of the multiblocks heard
+  pub heard-up-to : (k : ℕ) → k ≤ count → 8 * laneOctets (R .gap) * k ≤ 8 * length (laneHeard (t .receivings))
+  heard-up-to k h =
+      let z = mul-le-mul-left (8 * laneOctets (R .gap)) h in
+      omega (arith, all-run .whole, mul-assoc 8 (laneOctets (R .gap)) count)
 
   pub by-pairs : (limit clear : ℕ) → DamagedBy t limit clear → Pairwise limit clear (8 * laneOctets (R .gap) * count) (flips t)
   by-pairs limit clear damaged =

@@ -11,13 +11,13 @@ use Rattle.bits.specs.Order.{bitAt, laid}
 use Rattle.bits.proofs.Numbers.{bitAt-lt}
 use Rattle.bits.proofs.Laid.{taken-back}
 use Rattle.scrambler.specs.Scrambling.{sent}
-use Rattle.parity.specs.Codeword.{parityOf}
+use Rattle.parity.specs.Codeword.{multiblockParity}
 use Rattle.frame.specs.declared.modes.Row.{Row}
-use Rattle.frame.specs.Modes.{code, row, parity}
+use Rattle.frame.specs.Modes.{Whose, before, own, parity, layout, code, row, parityWidth}
 use Rattle.frame.specs.Headers.{invalid}
 use Rattle.frame.specs.Lane.{laneOctets, dataBit, headerAt, syncBit, dataOctets}
-use Rattle.frame.specs.SyncWord.{readParity}
-use Rattle.frame.proofs.SyncWord.{place, only-parity}
+use Rattle.frame.specs.SyncWord.{readParity, whole as together}
+use Rattle.frame.proofs.SyncWord.{place, only-there}
 use Rattle.frame.proofs.Lane.{laneFrom, data-moved, header-at-moved, sync-moved, octets-moved}
 use Rattle.sender.specs.declared.Sender.{Sender}
 use Rattle.sender.specs.Lane.{lane, after}
@@ -26,6 +26,7 @@ use Rattle.sender.proofs.States.{Fits}
 use Rattle.sender.proofs.Runs.{lane-join, lane-length}
 use Rattle.sender.proofs.Entry.{answered, returned, counted, written, whole, blocks, fits}
 use Rattle.sender.proofs.Multiblocks.{data-sent, valid-sent, parity-sent}
+use Rattle.receiver.proofs.Numbered.{parityOn}
 use Rattle.demands.specs.Calls.{Sending, sending, userOctets, AllSent, laneSent}
 use Rattle.demands.proofs.Wrong.{Bits}
 
@@ -86,7 +87,7 @@ pub record Sends (R : Row) (user : List ℕ) (history first n : ℕ) (lane : ℕ
   pub bits : Bits lane
   pub data-bits : (i q : ℕ) → i < n → q < 2048 → dataBit (R .gap) lane i q ≡ sent (bitAt user) history (2048 * (first + i) + q)
   pub valid : (i t : ℕ) → i < n → t < 32 → invalid (headerAt (R .gap) lane i t) ≡ false
-  pub parities : (i : ℕ) → suc i < n → readParity (R .sync) (syncBit (R .gap) lane (suc i)) ≡ parityOf (code (R .sync)) (dataOctets (R .gap) lane i)
+  pub parities : (i : ℕ) → suc i < n → parityOn R lane i ≡ multiblockParity (code (R .sync)) (bitAt (dataOctets (R .gap) lane i))
 
 module _ (gap : ℕ) (lane : ℕ → ℕ) (a b : ℕ) where
   further : laneFrom gap (laneFrom gap lane a) b ≡ laneFrom gap lane (a + b)
@@ -123,6 +124,12 @@ sends mode E s calls one first n inside = subst (λ (l : List ℕ). Sends R user
     enough : 256 * length (allCommands calls) ≤ length user
     enough = omega (arith, one .given)
 
+    same-part : (whose : Whose) (i m : ℕ) → first + i ≡ m
+        → readParity (R .sync) whose (syncBit (R .gap) (laneFrom (R .gap) (bitAt all) first) i) ≡ readParity (R .sync) whose (syncBit (R .gap) (bitAt all) m)
+    same-part whose i m e =
+        only-there (layout (R .sync)) (parity whose) (parityWidth (R .sync) whose) (syncBit (R .gap) (laneFrom (R .gap) (bitAt all) first) i) (syncBit (R .gap) (bitAt all) m)
+        (λ k l. sync-from (R .gap) (bitAt all) first i (place (R .sync) (parity whose k)) ∙ ap (λ (m : ℕ). syncBit (R .gap) (bitAt all) m (place (R .sync) (parity whose k))) e)
+
     of-lane : Sends R user (s .history) first n (laneFrom (R .gap) (bitAt all) first)
     of-lane = record {
       bits = λ k. bitAt-lt all (8 * laneOctets (R .gap) * first + k);
@@ -132,8 +139,7 @@ sends mode E s calls one first n inside = subst (λ (l : List ℕ). Sends R user
       valid = λ i t h l.
           ap invalid (header-from (R .gap) (bitAt all) first i t) ∙ valid-sent R E s user (allCommands calls) enough (first + i) t (omega arith) l;
       parities = λ i h.
-          only-parity (R .sync) (syncBit (R .gap) (laneFrom (R .gap) (bitAt all) first) (suc i)) (syncBit (R .gap) (bitAt all) (suc (first + i)))
-          (λ k l. sync-from (R .gap) (bitAt all) first (suc i) (place (R .sync) (parity k)) ∙ ap (λ (m : ℕ). syncBit (R .gap) (bitAt all) m (place (R .sync) (parity k))) {x = first + suc i} {y = suc (first + i)} (omega arith))
+          ap₂ (λ (x y : ℕ). together (R .sync) (record { before = x; own = y })) (same-part before (suc i) (suc (first + i)) (omega arith)) (same-part own i (first + i) refl)
           ∙ parity-sent R E s user (allCommands calls) enough (first + i) (omega arith)
-          ∙ ap (parityOf (code (R .sync))) (sym (octets-from (R .gap) (bitAt all) first i));
+          ∙ ap (λ (l : List ℕ). multiblockParity (code (R .sync)) (bitAt l)) (sym (octets-from (R .gap) (bitAt all) first i));
     }

@@ -7,6 +7,7 @@ use lib.ListN.{take, drop, replicate}
 use Rattle.scrambler.specs.Scrambling.{scrambled}
 use Rattle.parity.specs.Codeword.{crc12, fec, parityOf}
 use Rattle.frame.specs.declared.modes.Sync.the-variants.{Crc12, Fec}
+use Rattle.frame.specs.declared.sync.Parts.{Parts}
 use Rattle.frame.specs.SyncWord.{syncWord}
 
 -- octets or a number, as found and as wanted
@@ -26,6 +27,10 @@ user = 0x80 ∷ replicate 15 0x00
 abbrev pub lastOctet : ℕ → List ℕ
 lastOctet octet = replicate 255 0x00 ++ octet ∷ []
 
+-- a parity of the multiblock before, and no part of its own
+abbrev pub before : ℕ → Parts
+before p = record { before = p; own = 0 }
+
 abbrev pub dozen : List Case
 dozen =
     octets (take 8 (scrambled user 0 16)) (0x80 ∷ 0x00 ∷ 0x00 ∷ 0x00 ∷ 0x01 ∷ 0x00 ∷ 0x00 ∷ 0x20 ∷ [])
@@ -36,8 +41,8 @@ dozen =
     ∷ value (parityOf fec (lastOctet 0x01)) 0x220211
     ∷ value (parityOf fec (lastOctet 0x10)) 0x2202110
     ∷ value (parityOf fec (lastOctet 0x20)) 0x624031
-    ∷ value (syncWord Crc12 0 0 1) 0x11111701
-    ∷ value (syncWord Crc12 0 0 0) 0x11111501
-    ∷ value (syncWord Crc12 0x30F 0x41 0) 0x393F9521
-    ∷ value (syncWord Fec 0 0 1) 0x00000201
+    ∷ value (syncWord Crc12 (before 0) 0 1) 0x11111701
+    ∷ value (syncWord Crc12 (before 0) 0 0) 0x11111501
+    ∷ value (syncWord Crc12 (before 0x30F) 0x41 0) 0x393F9521
+    ∷ value (syncWord Fec (before 0) 0 1) 0x00000201
     ∷ []

@@ -3,19 +3,19 @@ use mathlib.Core.Path.{_≡_}
 use mathlib.Core.Bool.{Bool, true, false}
 use mathlib.Core.Logic.{_⊎_}
 use mathlib.Core.List.{List, [], _∷_, List·Memᴰ}
-use Prim.Native.Nat.{ℕ, _+_, _-_, _*_, _/_, _%_, _≤_, _<_}
+use Prim.Native.Nat.{ℕ, suc, _+_, _-_, _*_, _/_, _%_, _≤_, _<_}
 use lib.ListN.{length}
+use Rattle.bits.specs.Choice.{bitOf}
 use Rattle.bits.specs.Order.{bitAt, listFrom}
 use Rattle.parity.specs.Codeword.{fec, remainderOf}
 use Rattle.parity.specs.Bursts.{BurstSet, IsBurst, flips as burstFlips}
-use Rattle.frame.specs.declared.modes.Sync.the-variants.{Crc12}
-use Rattle.frame.specs.Modes.{code, repairs, rows, known, row}
+use Rattle.frame.specs.Modes.{code, repairs, checks, rows, known, row}
 use Rattle.fill.specs.Register.{registerAfter, shifts, still}
 use Rattle.fill.specs.Table38.{fillBit}
 use Rattle.frame.specs.Headers.{headerRead}
 use Rattle.frame.specs.Lane.{blockWidth, laneOctets, dataPlace, fillPlace, inGap, valueAt, invalidHeaders}
 use Rattle.sender.specs.declared.Sender.{Sender}
-use Rattle.judge.specs.Sound.{sound}
+use Rattle.judge.specs.Sound.{sound, soundness}
 use Rattle.receiver.specs.declared.Receiver.{Receiver}
 use Rattle.receiver.specs.Entry as receiver
 use Rattle.lock.specs.declared.Phase.the-variants.{Following}
@@ -41,9 +41,17 @@ clearOf mode = 2 * (8 * laneOctets (row mode .gap))
 abbrev pub Damaged : {mode E : ℕ} → Transfer mode E → Type 0
 Damaged {mode} t = DamagedBy t (limitOf mode) (clearOf mode)
 
--- mode by mode: CRC-12 and FEC in blocks of 66 bits, and the same in blocks of 80
+-- mode by mode: CRC-12 and FEC in blocks of 66 bits, the same in blocks of 80, CRC-3, and no bursts where there is no parity
 abbrev pub Limits : Type 0
-Limits = (listFrom limitOf 0 (length rows) ≡ 12 ∷ 9 ∷ 12 ∷ 9 ∷ []) × (listFrom clearOf 0 (length rows) ≡ 4224 ∷ 4224 ∷ 5120 ∷ 5120 ∷ [])
+Limits =
+    (listFrom limitOf 0 (length rows) ≡ 12 ∷ 9 ∷ 12 ∷ 9 ∷ 3 ∷ 0 ∷ [])
+    × (listFrom clearOf 0 (length rows) ≡ 4224 ∷ 4224 ∷ 5120 ∷ 5120 ∷ 4224 ∷ 4224 ∷ [])
+
+-- and which modes have a parity, and which of these repair
+abbrev pub Kinds : Type 0
+Kinds =
+    (listFrom (λ mode. bitOf (checks (row mode .sync))) 0 (length rows) ≡ 1 ∷ 1 ∷ 1 ∷ 1 ∷ 1 ∷ 0 ∷ [])
+    × (listFrom (λ mode. bitOf (repairs (row mode .sync))) 0 (length rows) ≡ 0 ∷ 1 ∷ 0 ∷ 1 ∷ 0 ∷ 0 ∷ [])
 
 -- ---- demand 3 with a code that repairs: FEC
 
@@ -53,18 +61,22 @@ FecDelivers =
     (mode E : ℕ) → repairs (row mode .sync) ≡ true → (t : Transfer mode E) → Damaged t
     → (i j : ℕ) → 1 ≤ i → i < releases t → j < 256 → released t i j ≡ given t i j
 
--- ---- demand 3 with a code that only notices: CRC-12
+-- ---- demand 3 with a code that only notices: CRC-12, and CRC-3 (request 5)
+
+-- there is a parity, and no burst is flipped back
+abbrev pub Notices : ℕ → Type 0
+Notices mode = (checks (row mode .sync) ≡ true) × (repairs (row mode .sync) ≡ false)
 
 -- every released multiblock whose data bits were hit has status 2 or 6
 abbrev pub CrcTellsHits : Type 0
 CrcTellsHits =
-    (mode E : ℕ) → repairs (row mode .sync) ≡ false → (t : Transfer mode E) → Damaged t
+    (mode E : ℕ) → Notices mode → (t : Transfer mode E) → Damaged t
     → (i q : ℕ) → i < releases t → q < 2048 → flips t (dataPlace (row mode .gap) i q) ≡ 1 → (status t i ≡ 2) ⊎ (status t i ≡ 6)
 
 -- a released multiblock other than the first has status 0, so that it is sound throughout, if it and both its neighbours were untouched
 abbrev pub CrcUntouchedSound : Type 0
 CrcUntouchedSound =
-    (mode E : ℕ) → repairs (row mode .sync) ≡ false → (t : Transfer mode E) → Damaged t
+    (mode E : ℕ) → Notices mode → (t : Transfer mode E) → Damaged t
     → (i : ℕ) → 1 ≤ i → i < releases t → Untouched t (i - 1) (i + 2) → status t i ≡ 0
 
 -- ---- with either: no octet called sound differs from the one sent
@@ -72,13 +84,28 @@ CrcUntouchedSound =
 abbrev pub SoundTrue : Bool → Type 0
 SoundTrue repaired =
     (mode E : ℕ) → repairs (row mode .sync) ≡ repaired → (t : Transfer mode E) → Damaged t
-    → (i j : ℕ) → i < releases t → j < 256 → sound (status t i) j ≡ true → released t i j ≡ given t i j
+    → (i j : ℕ) → i < releases t → j < 256 → soundness (row mode .sync) (status t i) j ≡ sound → released t i j ≡ given t i j
 
 abbrev pub FecSoundTrue : Type 0
 FecSoundTrue = SoundTrue true
 
 abbrev pub CrcSoundTrue : Type 0
 CrcSoundTrue = SoundTrue false
+
+-- ---- without a parity (request 5): the stand-alone command channel
+
+-- whatever was flipped, the first released multiblock has status 4 and the others have 0, and no octet is called sound, by any status
+abbrev pub UncheckedNeverSound : Type 0
+UncheckedNeverSound =
+    (mode E : ℕ) → checks (row mode .sync) ≡ false
+    → ((t : Transfer mode E) (i : ℕ) → i < releases t → (i ≡ 0 → status t i ≡ 4) × (1 ≤ i → status t i ≡ 0))
+    × ((status j : ℕ) → soundness (row mode .sync) status j ≡ sound → ⊥)
+
+-- in this mode as in every other, on an undamaged lane the octets of every released multiblock after the first equal those sent
+abbrev pub UndamagedDelivers : Type 0
+UndamagedDelivers =
+    (mode E : ℕ) (t : Transfer mode E) → ((x : ℕ) → x < 8 * length (laneHeard (t .receivings)) → flips t x ≡ 0)
+    → (i j : ℕ) → suc i < releases t → j < 256 → released t (suc i) j ≡ given t (suc i) j
 
 -- ---- invalid headers (request 1), with any bits flipped
 
@@ -146,18 +173,18 @@ OneSet =
 abbrev pub headersFrom : ℕ → List ℕ → ℕ → ℕ → ℕ
 headersFrom gap lane p x = valueAt gap (bitAt lane) ((p + x) / 32) ((p + x) % 32)
 
--- a CRC-12 lane that our sender made, fed from fresh at its true offset from any block of it, holds both locks after at most 95 + 128E blocks
+-- a lane that our sender made, with any sync words but FEC's, fed from fresh at its true offset from any block of it, holds both locks after at most 95 + 128E blocks
 -- and at every block after, as far as the lane goes
 abbrev pub LocksInTime : Type 0
 LocksInTime =
-    (mode E : ℕ) → known mode ≡ true → row mode .sync ≡ Crc12 → (s : Sender) (calls : List Sending) → AllSent mode E s calls
+    (mode E : ℕ) → known mode ≡ true → repairs (row mode .sync) ≡ false → (s : Sender) (calls : List Sending) → AllSent mode E s calls
     → (p n : ℕ) → blockWidth (row mode .gap) * (p + n) ≤ 8 * length (laneSent mode E s calls) → 95 + 128 * E ≤ n
     → Held (stateAfter mode E (headersFrom (row mode .gap) (laneSent mode E s calls) p) n)
 
 -- request 4: on such a lane nothing is ever kept, since its end mark and the ending after it fit at no other phase
 abbrev pub NothingKept : Type 0
 NothingKept =
-    (mode E : ℕ) → known mode ≡ true → row mode .sync ≡ Crc12 → (s : Sender) (calls : List Sending) → AllSent mode E s calls
+    (mode E : ℕ) → known mode ≡ true → repairs (row mode .sync) ≡ false → (s : Sender) (calls : List Sending) → AllSent mode E s calls
     → (p n : ℕ) → blockWidth (row mode .gap) * (p + n) ≤ 8 * length (laneSent mode E s calls)
     → stateAfter mode E (headersFrom (row mode .gap) (laneSent mode E s calls) p) n .extended .kept ≡ 0
 

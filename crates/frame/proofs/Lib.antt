@@ -1,5 +1,6 @@
 -- Laws of headers, sync words, blocks and multiblocks that no one function owns.
 pub mod SyncWord
+pub mod Groups
 pub mod Fields
 pub mod Lane
 pub mod Gathering

@@ -1,13 +1,15 @@
-// The modes and their numbers, which no other place in the code has: document 01, "From octets to lane bits" and "Numbers of refusal"; request 2;
-// clauses 7.1, 7.3.4 and 7.3.6. A row is a mode's sync word, the bits between the data octets of its blocks, and the multiblocks that one call takes.
+// The modes and their numbers, which no other place in the code has: document 01, "From octets to lane bits" and "Numbers of refusal"; requests 2 and
+// 5; clauses 7.1 and 7.3.4 to 7.3.7. A row is a mode's sync word, the bits between the data octets of its blocks, and the multiblocks that one call takes.
 ghost use mathlib.Core.Path.{_≡_};
 ghost use Rattle.frame.specs.Lane.{fillBound};
 ghost use Rattle.frame.specs.Modes.{known, row, numbersOf, extentFits, mostOfAll, longestLane};
 
-// What a sync word carries: the parity of CRC-12 and a command, or the parity of FEC.
+// What a sync word carries: the parity of CRC-12 and a command, the parity of FEC, the parities of CRC-3 and a command, or a command alone.
 pub enum Sync {
     Crc12,
     Fec,
+    Crc3,
+    Command,
 }
 
 pub struct Row {
@@ -16,10 +18,11 @@ pub struct Row {
     pub most: usize,
 }
 
-// What follows from a row: parities, commands, commands with their flag and fill registers are below these; octets of a multiblock on the lane,
-// and bits of a block; whether a burst is flipped back.
+// What follows from a row: parities that go with the next sync word and with their own, commands, commands with their flag and fill registers are
+// below these; octets of a multiblock on the lane, and bits of a block; whether a burst is flipped back.
 pub struct Numbers {
     pub parities: u32,
+    pub owns: u16,
     pub commands: u32,
     pub flagged: u32,
     pub fills: u32,
@@ -37,7 +40,7 @@ pub const LONGEST_LANE: usize = 320 * 200;
 pub fn known(mode: u8) -> bool
     ensures { λ r. ⌜ r ≡ known mode ⌝ }
 {
-    mode < 4
+    mode < 6
 }
 
 // The row of a mode. By the row of a number that is none no call takes a multiblock.
@@ -65,6 +68,16 @@ pub fn row_of(mode: u8) -> Row
             gap: 2,
             most: 200,
         },
+        4 => Row {
+            sync: Sync::Crc3,
+            gap: 0,
+            most: 240,
+        },
+        5 => Row {
+            sync: Sync::Command,
+            gap: 0,
+            most: 240,
+        },
         _ => Row {
             sync: Sync::Crc12,
             gap: 0,
@@ -86,25 +99,48 @@ pub fn numbers_of(row: Row) -> Numbers
 {
     let sync = row.sync;
     let width = 66 + 7 * (row.gap as u32);
+    let octets = 4 * width as usize;
     let fills = fills_of(row.gap);
     match sync {
         Sync::Crc12 => Numbers {
             parities: 0x1000,
+            owns: 1,
             commands: 0x80,
             flagged: 0x100,
             fills,
-            octets: 4 * width as usize,
+            octets,
             width,
             repairs: false,
         },
         Sync::Fec => Numbers {
             parities: 0x400_0000,
+            owns: 1,
             commands: 1,
             flagged: 1,
             fills,
-            octets: 4 * width as usize,
+            octets,
             width,
             repairs: true,
+        },
+        Sync::Crc3 => Numbers {
+            parities: 8,
+            owns: 0x200,
+            commands: 0x80,
+            flagged: 0x100,
+            fills,
+            octets,
+            width,
+            repairs: false,
+        },
+        Sync::Command => Numbers {
+            parities: 1,
+            owns: 1,
+            commands: 0x8_0000,
+            flagged: 0x10_0000,
+            fills,
+            octets,
+            width,
+            repairs: false,
         },
     }
 }

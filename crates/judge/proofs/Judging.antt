@@ -15,22 +15,22 @@ use Rattle.bits.specs.Order.{bitAt}
 use Rattle.bits.proofs.Numbers.{bitAt-lt}
 use Rattle.bits.proofs.Octets.{bit-octetsOf}
 use Rattle.parity.specs.declared.Burst.the-variants.{At}
-use Rattle.parity.specs.Codeword.{parityOf}
+use Rattle.parity.specs.Codeword.{multiblockParity}
 use Rattle.parity.specs.Bursts.{flips}
 use Rattle.parity.specs.Answer.{Explains}
 use Rattle.parity.proofs.Sets.{flips-bit}
 use Rattle.parity.proofs.Answer.{answer-is}
 use Rattle.frame.specs.declared.modes.Sync.{Sync}
-use Rattle.frame.specs.declared.modes.Sync.the-variants.{Crc12, Fec}
-use Rattle.frame.specs.Modes.{code, repairs}
+use Rattle.frame.specs.declared.modes.Sync.the-variants.{Crc12, Fec, Crc3, Command}
+use Rattle.frame.specs.Modes.{code, repairs, checks}
 use Rattle.judge.specs.declared.Verdict.{Verdict}
 use Rattle.judge.specs.Judge.{agrees, failed, byBurst, verdictOf, judged, mended, releasedStatus, trustedAfter}
-use Rattle.judge.specs.Sound.{sound}
+use Rattle.judge.specs.Sound.{Soundness, sound, unchecked, unsound, intact, soundness}
 use Rattle.judge.proofs.Mending.{flips-none}
 
 -- the difference that a verdict goes by
 abbrev pub difference : Sync → List ℕ → ℕ → ℕ
-difference S octets parity = bitXor (parityOf (code S) octets) parity
+difference S octets parity = bitXor (multiblockParity (code S) (bitAt octets)) parity
 
 pub judged-sound : (S : Sync) (octets : List ℕ) (parity : ℕ) → difference S octets parity ≡ 0 → judged S octets parity ≡ agrees
 unfolding judged verdictOf
@@ -46,6 +46,8 @@ unfolding judged verdictOf
 judged-burst Crc12 octets parity place pattern r n e = absurd (true≢false (sym r))
 judged-burst Fec octets parity place pattern r n e =
     rw (ne-eqb (difference Fec octets parity) 0 n, ← answer-is (difference Fec octets parity) (At place pattern) e)
+judged-burst Crc3 octets parity place pattern r n e = absurd (true≢false (sym r))
+judged-burst Command octets parity place pattern r n e = absurd (true≢false (sym r))
 
 pub mended-bit : (v : Verdict) (octets : List ℕ) (k : ℕ) → k < 2048 → bitAt (mended v octets) k ≡ bitXor (bitAt octets k) (flips (v .place) (v .pattern) k)
 unfolding mended
@@ -77,16 +79,31 @@ untrusted-after v e = rw (eq-eqb (v .status) 2 e)
 
 -- ---- sound octets
 
--- an octet called sound is of a multiblock that has not failed, and after a trusted history or past the first eight
+-- an octet is called sound only where there is a parity that could disagree
+is-sound : Soundness → Bool
+is-sound sound = true
+is-sound unchecked = false
+is-sound unsound = false
+
+pub called-sound : (S : Sync) (status j : ℕ) → soundness S status j ≡ sound → (intact status j ≡ true) × (checks S ≡ true)
+unfolding soundness is-sound
+called-sound S status j e = by (intact status j) (checks S) (ap is-sound e)
+  where
+    by : (a b : Bool) → is-sound (pick a (pick b sound unchecked) unsound) ≡ true → (a ≡ true) × (b ≡ true)
+    by true true e = (refl, refl)
+    by true false e = absurd (true≢false (sym e))
+    by false b e = absurd (true≢false (sym e))
+
+-- it is of a multiblock that has not failed, and after a trusted history or past the first eight
 pub record Believed (v : Verdict) (trusted : Bool) (j : ℕ) : Type 0 where
   pub not-failed : v .status ≢ 2
   pub known : (trusted ≡ true) ⊎ (8 ≤ j)
 
-pub believed : (v : Verdict) (trusted : Bool) (j : ℕ) → v .status ≤ 2 → sound (releasedStatus v trusted) j ≡ true → Believed v trusted j
-unfolding sound releasedStatus
+pub believed : (v : Verdict) (trusted : Bool) (j : ℕ) → v .status ≤ 2 → intact (releasedStatus v trusted) j ≡ true → Believed v trusted j
+unfolding intact releasedStatus
 believed v trusted j h e = by trusted (v .status) h e
   where
-    by : (t : Bool) (n : ℕ) → n ≤ 2 → sound (n + pick t 0 4) j ≡ true → Believed (record { status = n; place = v .place; pattern = v .pattern }) t j
+    by : (t : Bool) (n : ℕ) → n ≤ 2 → intact (n + pick t 0 4) j ≡ true → Believed (record { status = n; place = v .place; pattern = v .pattern }) t j
     by true zero h e = record { not-failed = λ z. absurd (omega arith); known = inl refl }
     by true (suc zero) h e = record { not-failed = λ z. absurd (omega arith); known = inl refl }
     by true (suc (suc zero)) h e = absurd (true≢false (sym e))

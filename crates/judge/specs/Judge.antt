@@ -1,4 +1,5 @@
--- How a waiting multiblock is judged and mended: document 01, "What the receiver releases"; clauses 7.4.1, 7.5.1 and 7.5.3. Assumes nothing.
+-- How a waiting multiblock is judged and mended: document 01, "What the receiver releases"; clauses 7.4.1, 7.5.1 and 7.5.3; request 5. Assumes
+-- nothing.
 use mathlib.Core.Bool.{Bool, not}
 use mathlib.Core.List.{List}
 use Prim.Native.Nat.{ℕ, _+_}
@@ -8,7 +9,7 @@ use Rattle.bits.specs.Choice.{pick}
 use Rattle.bits.specs.Order.{bitAt, octetsOf}
 use Rattle.parity.specs.declared.Burst.{Burst}
 use Rattle.parity.specs.declared.Burst.the-variants.{At, Nothing}
-use Rattle.parity.specs.Codeword.{parityOf}
+use Rattle.parity.specs.Codeword.{multiblockParity}
 use Rattle.parity.specs.Bursts.{flips}
 use Rattle.parity.specs.Answer.{burstFor, placeOf, patternOf}
 use Rattle.frame.specs.declared.modes.Sync.{Sync}
@@ -31,12 +32,13 @@ statusOf Nothing = 2
 abbrev pub byBurst : Burst → Verdict
 byBurst burst = record { status = statusOf burst; place = placeOf burst; pattern = patternOf burst }
 
--- by the difference between the parity of what was received and the parity received
+-- by the difference between the parity of what was received and the parity received: with more than one group it is 0 only where all agree, and
+-- without groups always
 unfoldable pub verdictOf : Sync → ℕ → Verdict
 verdictOf S difference = pick (eqb difference 0) agrees (pick (repairs S) (byBurst (burstFor (code S) difference)) failed)
 
 unfoldable pub judged : Sync → List ℕ → ℕ → Verdict
-judged S octets parity = verdictOf S (bitXor (parityOf (code S) octets) parity)
+judged S octets parity = verdictOf S (bitXor (multiblockParity (code S) (bitAt octets)) parity)
 
 -- the data with the burst flipped; positions from 2,048 on are parity
 unfoldable pub mended : Verdict → List ℕ → List ℕ

@@ -1,14 +1,16 @@
-// What a waiting multiblock turns out to be, and what is released of it: document 01, "What the receiver releases"; clauses 7.4.1 and 7.5.3.
+// What a waiting multiblock turns out to be, and what is released of it: document 01, "What the receiver releases"; clauses 7.4.1 and 7.5.3;
+// request 5.
 ghost use mathlib.Core.Path.{_≡_};
 ghost use Prim.Native.Nat.{ℕ, _<_, _≤_};
 ghost use lib.ListN.{length, getD};
 ghost use Rattle.bits.specs.Order.{bitAt, number, laidAt};
 ghost use Rattle.scrambler.specs.Scrambling.{descrambled};
-ghost use Rattle.parity.specs.Codeword.{parityOf};
+ghost use Rattle.parity.specs.Codeword.{multiblockParity};
 ghost use Rattle.frame.specs.Modes.{code};
 ghost use Rattle.judge.specs.Judge.{byBurst, verdictOf, judged, mended, releasedStatus, trustedAfter};
 use frame::modes::Sync;
 use parity::Burst;
+use parity::Crc3;
 use parity::Crc12;
 use parity::Fec;
 
@@ -57,23 +59,24 @@ fn verdict_of(sync: Sync, difference: u32) -> Verdict
         };
     }
     match sync {
-        Sync::Crc12 => Verdict {
-            status: 2,
-            place: 0,
-            pattern: 0,
-        },
+        Sync::Crc12 => by_burst(Burst::Nothing),
         Sync::Fec => by_burst(Fec::burst(difference)),
+        Sync::Crc3 => by_burst(Burst::Nothing),
+        Sync::Command => by_burst(Burst::Nothing),
     }
 }
 
-// The parity of octets. That they are octets is for `mend`.
+// The parity of a multiblock's octets: of no groups it is 0. That they are octets is for `mend`.
 fn parity_of(sync: Sync, octets: &[u8]) -> u32
-    ensures { λ r. ⌜ r ≡ parityOf (code sync) (now (octets .entry)) ⌝ }
+    requires { ⌜ length (now octets) ≡ 256 ⌝ }
+    ensures { λ r. ⌜ r ≡ multiblockParity (code sync) (bitAt (now (octets .entry))) ⌝ }
     ensures { λ _. ⌜ ((j : ℕ) → getD (now (octets .entry)) j 0 < 256) ⌝ }
 {
     match sync {
         Sync::Crc12 => Crc12::of(octets),
         Sync::Fec => Fec::of(octets),
+        Sync::Crc3 => Crc3::of(octets),
+        Sync::Command => 0,
     }
 }
 

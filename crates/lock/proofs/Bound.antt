@@ -1,5 +1,6 @@
--- An undamaged CRC-12 lane, fed from fresh at its true offset from any block of it, holds both locks after at most 95 + 128E blocks and at
--- every block after: document 01, "Lock tables". No match comes in between (`Ends`), so that nothing is ever kept: request 4. Assumes nothing.
+-- An undamaged lane with the pilot signal of `Stream`, fed from fresh at its true offset from any block of it, holds both locks after at most
+-- 95 + 128E blocks and at every block after: document 01, "Lock tables". No match comes in between (`Ends`), so that nothing is ever kept:
+-- request 4. Assumes nothing.
 use mathlib.Core.Path.{_≡_, refl, sym, ap, _∙_, subst}
 use mathlib.Core.Bool.{Bool, true, false, not}
 use mathlib.Core.Logic.{⊎-elim}
@@ -18,7 +19,7 @@ use Rattle.lock.specs.ExtendedTable.{withHeader, matches, hunting, moved
 use Rattle.lock.specs.Table.{lockStep}
 use Rattle.lock.specs.Refusals.{widthOf}
 use Rattle.lock.specs.Run.{stateAfter}
-use Rattle.lock.specs.Stream.{Crc12Sync, Crc12Headers, Held}
+use Rattle.lock.specs.Stream.{PilotSync, PilotHeaders, Held}
 use Rattle.lock.specs.declared.HeaderLock.{HeaderLock}
 use Rattle.lock.specs.declared.ExtendedLock.{ExtendedLock}
 use Rattle.lock.specs.declared.Lock.{Lock}
@@ -51,7 +52,7 @@ module _ (width period : ℕ) (header : Header) (k : valid header ≡ true) wher
 
 -- ---- a run over such a lane
 
-later : (E p d : ℕ) (sync : ℕ → ℕ) → Crc12Sync E p sync → Crc12Sync E (d + p) (λ n. sync (d + n))
+later : (E p d : ℕ) (sync : ℕ → ℕ) → PilotSync E p sync → PilotSync E (d + p) (λ n. sync (d + n))
 later E p d sync w =
     let z : (n : ℕ) → d + n + p ≡ n + (d + p) = λ n. omega arith in
     record {
@@ -61,7 +62,7 @@ later E p d sync w =
       otherMarks = λ n h k. w .otherMarks (d + n) (rw z h) (rw z k);
     }
 
-module _ (mode E p : ℕ) (headers : ℕ → ℕ) (of-mode : known mode ≡ true) (extent : extentFits E ≡ true) (lane : Crc12Headers E p headers) where
+module _ (mode E p : ℕ) (headers : ℕ → ℕ) (of-mode : known mode ≡ true) (extent : extentFits E ≡ true) (lane : PilotHeaders E p headers) where
   some : 1 ≤ E
   some = extent-within E extent .0
 

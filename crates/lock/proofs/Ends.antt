@@ -1,4 +1,5 @@
--- On an undamaged CRC-12 lane, once 32 headers were seen, exactly the blocks match that end an extended multiblock. Assumes nothing.
+-- On an undamaged lane with the pilot signal of `Stream`, once 32 headers were seen, exactly the blocks match that end an extended multiblock.
+-- Assumes nothing.
 use mathlib.Core.Path.{_≡_, refl, sym, ap, _∙_}
 use mathlib.Core.Bool.{Bool, true, false, true≢false}
 use mathlib.Core.Logic.{⊎-elim}
@@ -10,7 +11,7 @@ use lib.Dec.{eqb}
 use lib.Pow.{mod-pow-add}
 use Rattle.bits.proofs.Choice.{pick-both}
 use Rattle.lock.specs.ExtendedTable.{matches}
-use Rattle.lock.specs.Stream.{alwaysOne, Crc12Sync}
+use Rattle.lock.specs.Stream.{alwaysOne, PilotSync}
 use Rattle.lock.specs.declared.ExtendedLock.{ExtendedLock}
 use Rattle.lock.proofs.Matches.{match-from, match-tells}
 use Rattle.lock.proofs.Follow.{lt-or-ge}
@@ -36,7 +37,7 @@ same-as : (m : Bool) (a b : ℕ) → (a ≡ b → m ≡ true) → (m ≡ true �
 same-as true a b f g = sym (eq-eqb a b (g refl))
 same-as false a b f g = sym (ne-eqb a b (λ e. true≢false (sym (f e))))
 
-module _ (E p : ℕ) (sync : ℕ → ℕ) (w : Crc12Sync E p sync) (some : 1 ≤ E) where
+module _ (E p : ℕ) (sync : ℕ → ℕ) (w : PilotSync E p sync) (some : 1 ≤ E) where
   -- in 0, 0, 0, 0, 1 the 1 is at position 31
   at-end : (n : ℕ) → 4 ≤ n → sync n ≡ 1 → ((i : ℕ) → 1 ≤ i → i ≤ 4 → sync (n - i) ≡ 0) → (n + p) % 32 ≡ 31
   at-end n l o z =

@@ -10,7 +10,7 @@ use Rattle.multiblock.specs.Shape.{shape}
 -- no mode has another gap
 pub own-shape : (mode : ℕ) → shape (row mode .gap) ≡ row mode .gap
 unfolding shape
-own-shape = of-each (λ (R : Row). shape (R .gap) ≡ R .gap) (refl, (refl, (refl, (refl, tt)))) refl
+own-shape = of-each (λ (R : Row). shape (R .gap) ≡ R .gap) (refl, (refl, (refl, (refl, (refl, (refl, tt)))))) refl
 
 -- ---- by a test
 

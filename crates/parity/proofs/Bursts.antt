@@ -17,7 +17,7 @@ use Rattle.bits.proofs.Xor.{odd-lt}
 use Rattle.polynomial.specs.Polynomial.{scale, timesX, timesPower}
 use Rattle.polynomial.proofs.Polynomial.{half-lt, scale-zero, scale-mod, scale-above, timesX-low, timesPower-none, timesPower-suc, timesPower-xor, timesPower-zero, timesPower-scale, timesPower-add, timesPower-lt, timesPower-injective, power-low}
 use Rattle.polynomial.proofs.Fire.{trapped}
-use Rattle.parity.specs.Codeword.{Code, crc12, fec, weight, weighed, remainderOf}
+use Rattle.parity.specs.Codeword.{Code, crc12, fec, crc3, dataBits, weight, weighed, remainderOf}
 use Rattle.parity.specs.Bursts.{IsBurst, flips}
 use Rattle.parity.proofs.Numbers.{parity-numbers}
 
@@ -28,7 +28,7 @@ pub record Proper (C : Code) : Type 0 where
   pub some : 0 < C .width
   pub fits : C .lower < 2 ^ C .width
   pub odd : C .lower % 2 ≡ 1  -- so that no power of x is a multiple of the polynomial
-  pub long : C .positions ≡ 2048 + C .width
+  pub long : C .positions ≡ dataBits C + C .width
   pub reach : C .limit ≤ C .width
 
 pub crc12-proper : Proper crc12
@@ -36,6 +36,9 @@ crc12-proper = record { some = lit< tt; fits = lit< tt; odd = refl; long = parit
 
 pub fec-proper : Proper fec
 fec-proper = record { some = lit< tt; fits = lit< tt; odd = refl; long = parity-numbers .1 .bits; reach = lit≤ tt }
+
+pub crc3-proper : Proper crc3
+crc3-proper = record { some = lit< tt; fits = lit< tt; odd = refl; long = parity-numbers .2 .bits; reach = lit≤ tt }
 
 -- ---- the positions of a burst
 

@@ -4,5 +4,6 @@ pub mod Codeword
 pub mod Bursts
 pub mod Sets
 pub mod Received
+pub mod Groups
 pub mod Trap
 pub mod Answer

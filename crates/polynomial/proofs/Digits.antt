@@ -42,7 +42,7 @@ module _ (w g : ℕ) where
       ∙ timesPower-in w g n r
 
   -- what was there before, moved on, and the digits by themselves
-  from-apart : (n r v : ℕ) → remainderFrom w g r (digits n v) ≡ bitXor (timesPower w g n r) (remainderFrom w g 0 (digits n v))
+  pub from-apart : (n r v : ℕ) → remainderFrom w g r (digits n v) ≡ bitXor (timesPower w g n r) (remainderFrom w g 0 (digits n v))
   from-apart n r v =
       ap (λ (s : ℕ). remainderFrom w g s (digits n v)) (sym (xor-zero-r r))
       ∙ from-digits w g n r 0 0 v

@@ -9,38 +9,44 @@ use Rattle.bits.specs.Order.{bitAt}
 use Rattle.bits.proofs.Numbers.{bitAt-lt, number-lt}
 use Rattle.frame.specs.declared.modes.Sync.{Sync}
 use Rattle.frame.specs.declared.modes.Row.{Row}
-use Rattle.frame.specs.Modes.{flaggedBound}
+use Rattle.frame.specs.Modes.{own, parity, layout, parityWidth, flaggedBound}
 use Rattle.frame.specs.declared.headers.Header.the-variants.{Zero}
-use Rattle.frame.specs.Lane.{headerAt}
-use Rattle.frame.proofs.Lane.{invalid-at-le}
-use Rattle.frame.proofs.SyncWord.{flagged-fits}
+use Rattle.frame.specs.Lane.{headerAt, syncBit}
+use Rattle.frame.proofs.Lane.{invalid-at-le, syncBit-lt}
+use Rattle.frame.proofs.SyncWord.{flagged-fits, read-lt}
 use Rattle.receiver.specs.declared.Receiver.{Receiver}
 use Rattle.receiver.specs.Release.{Step, fresh, waitingAt, step, run}
 use Rattle.receiver.specs.Refusal.{allZero, asFresh, stateFits}
 use Rattle.receiver.proofs.Refusals.{waiting-fits, idle-fits}
 
+-- by the bounds of a kind of sync word
+abbrev pub fits : Sync → Receiver → Bool
+fits S = stateFits (flaggedBound S) (2 ^ parityWidth S own)
+
 module _ (R : Row) (lane : ℕ → ℕ) where
-  waiting-accepted : (m history : ℕ) (trusted : Bool) → history < 2 ^ 58 → stateFits (flaggedBound (R .sync)) (waitingAt R lane m history trusted) ≡ true
+  waiting-accepted : (m history : ℕ) (trusted : Bool) → history < 2 ^ 58 → fits (R .sync) (waitingAt R lane m history trusted) ≡ true
   unfolding waitingAt
   waiting-accepted m history trusted h =
-      sym (waiting-fits (flaggedBound (R .sync)) _ h (flagged-fits (R .sync) (headerAt (R .gap) lane m)) (invalid-at-le (R .gap) lane m) refl)
+      let S = R .sync in
+      sym (waiting-fits (flaggedBound S) (2 ^ parityWidth S own) _ h (flagged-fits S (headerAt (R .gap) lane m)) (invalid-at-le (R .gap) lane m)
+      (read-lt (layout S) (parity own) (parityWidth S own) (syncBit (R .gap) lane m) (syncBit-lt (R .gap) lane m)) refl)
 
-  either : (w : Bool) (a b : Step) → stateFits (flaggedBound (R .sync)) (a .state) ≡ true → stateFits (flaggedBound (R .sync)) (b .state) ≡ true → stateFits (flaggedBound (R .sync)) (pick w a b .state) ≡ true
+  either : (w : Bool) (a b : Step) → fits (R .sync) (a .state) ≡ true → fits (R .sync) (b .state) ≡ true → fits (R .sync) (pick w a b .state) ≡ true
   either true a b h k = h
   either false a b h k = k
 
-  pub step-accepted : (m : ℕ) (s : Receiver) → stateFits (flaggedBound (R .sync)) (step R lane m s .state) ≡ true
+  pub step-accepted : (m : ℕ) (s : Receiver) → fits (R .sync) (step R lane m s .state) ≡ true
   unfolding step
   step-accepted m s =
       either (s .waiting) _ _ (waiting-accepted m _ _ (number-lt (bitAt _) (bitAt-lt _) 1990 58)) (waiting-accepted m 0 false (pow-pos 58))
 
-  pub accepted-again : (s : Receiver) (n : ℕ) → stateFits (flaggedBound (R .sync)) s ≡ true → stateFits (flaggedBound (R .sync)) (run R lane s n .state) ≡ true
+  pub accepted-again : (s : Receiver) (n : ℕ) → fits (R .sync) s ≡ true → fits (R .sync) (run R lane s n .state) ≡ true
   unfolding run
   accepted-again s zero h = h
   accepted-again s (suc n) h = step-accepted n (run R lane s n .state)
 
-pub fresh-accepted : (S : Sync) → stateFits (flaggedBound S) fresh ≡ true
+pub fresh-accepted : (S : Sync) → fits S fresh ≡ true
 unfolding asFresh allZero
 fresh-accepted S =
     let some = flagged-fits S (λ t. Zero) in
-    sym (idle-fits (flaggedBound S) fresh (pow-pos 58) (omega (arith, some)) (omega arith) refl)
+    sym (idle-fits (flaggedBound S) (2 ^ parityWidth S own) fresh (pow-pos 58) (omega (arith, some)) (omega arith) (pow-pos (parityWidth S own)) refl)

@@ -8,20 +8,20 @@ use native.Mathlib.Omega.{arith}
 use Rattle.bits.specs.Choice.{pick}
 use Rattle.frame.specs.declared.modes.Row.{Row}
 use Rattle.frame.specs.Lane.{dataBit, headerAt, syncBit}
-use Rattle.frame.specs.SyncWord.{readParity, flaggedCommand}
+use Rattle.frame.specs.SyncWord.{readParts, flaggedCommand}
 use Rattle.frame.proofs.Lane.{same-octets}
 use Rattle.receiver.specs.declared.Receiver.{Receiver}
 use Rattle.receiver.specs.declared.run.Heard.{Heard}
 use Rattle.receiver.specs.Release.{Release, Step, step, run}
 use Rattle.receiver.specs.inner.Turn.{heardAt}
-use Rattle.receiver.proofs.Cut.{mendedOn, releaseOn, waitingOn, stepOn, step-heard, then}
+use Rattle.receiver.proofs.Cut.{parityOn, mendedOn, releaseOn, waitingOn, stepOn, step-heard, then}
 
 -- without the number of invalid headers: what is heard, a state, a release, all releases, and a step
 abbrev bareHeard : Heard → Heard
-bareHeard h = record { octets = h .octets; parity = h .parity; command = h .command; invalid = 0 }
+bareHeard h = record { octets = h .octets; parts = h .parts; command = h .command; invalid = 0 }
 
 abbrev pub bareState : Receiver → Receiver
-bareState s = record { waiting = s .waiting; octets = s .octets; history = s .history; trusted = s .trusted; command = s .command; invalid = 0 }
+bareState s = record { waiting = s .waiting; octets = s .octets; history = s .history; trusted = s .trusted; command = s .command; invalid = 0; own = s .own }
 
 abbrev pub bareRelease : Release → Release
 bareRelease r = record { octets = r .octets; status = r .status; command = r .command; place = r .place; pattern = r .pattern; invalid = 0 }
@@ -43,7 +43,7 @@ either false a b c d e f = f
 
 -- a step looks at none of it
 bare-step : (R : Row) (s : Receiver) (h : Heard) → bare (stepOn R s h) ≡ bare (stepOn R (bareState s) (bareHeard h))
-unfolding stepOn releaseOn waitingOn mendedOn
+unfolding stepOn releaseOn waitingOn mendedOn parityOn
 bare-step R s h = either (s .waiting) _ _ _ _ refl refl
 
 module _ (R : Row) where
@@ -65,7 +65,7 @@ module _ (R : Row) where
 
   pub same-but-invalid : (f g : ℕ → ℕ) (s : Receiver) (n : ℕ)
       → ((m q : ℕ) → m < n → q < 2048 → dataBit (R .gap) f m q ≡ dataBit (R .gap) g m q)
-      → ((m : ℕ) → m < n → readParity (R .sync) (syncBit (R .gap) f m) ≡ readParity (R .sync) (syncBit (R .gap) g m))
+      → ((m : ℕ) → m < n → readParts (R .sync) (syncBit (R .gap) f m) ≡ readParts (R .sync) (syncBit (R .gap) g m))
       → ((m : ℕ) → m < n → flaggedCommand (R .sync) (headerAt (R .gap) f m) ≡ flaggedCommand (R .sync) (headerAt (R .gap) g m))
       → bare (run R f s n) ≡ bare (run R g s n)
   same-but-invalid f g s n same-data same-parity same-command = bare-run f g s n alike

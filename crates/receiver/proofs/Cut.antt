@@ -13,45 +13,48 @@ use Rattle.bits.proofs.Octets.{bit-drop}
 use Rattle.scrambler.specs.Scrambling.{descrambled}
 use Rattle.frame.specs.declared.modes.Row.{Row}
 use Rattle.frame.specs.Lane.{laneOctets, dataBit, headerAt, syncBit, invalidHeaders}
-use Rattle.frame.specs.SyncWord.{readParity, flaggedCommand}
+use Rattle.frame.specs.SyncWord.{readParts, whole, flaggedCommand}
 use Rattle.frame.proofs.Lane.{laneFrom, octets-moved, header-at-moved, sync-moved, invalid-moved, same-octets}
 use Rattle.receiver.specs.declared.Receiver.{Receiver}
 use Rattle.receiver.specs.declared.run.Heard.{Heard}
 use Rattle.judge.specs.Judge.{judged, mended, releasedStatus, trustedAfter}
-use Rattle.receiver.specs.Release.{Release, Step, verdictAt, mendedAt, releaseAt, waitingAt, step, run}
+use Rattle.receiver.specs.Release.{Release, Step, parityAt, verdictAt, mendedAt, releaseAt, waitingAt, step, run}
 use Rattle.receiver.specs.inner.Turn.{heardAt}
 
 -- ---- by what is heard
 
 module _ (R : Row) (s : Receiver) where
+  unfoldable pub parityOn : Heard → ℕ
+  parityOn h = whole (R .sync) (record { before = h .parts .before; own = s .own })
+
   unfoldable pub mendedOn : Heard → List ℕ
-  mendedOn h = mended (judged (R .sync) (s .octets) (h .parity)) (s .octets)
+  mendedOn h = mended (judged (R .sync) (s .octets) (parityOn h)) (s .octets)
 
   unfoldable pub releaseOn : Heard → Release
   releaseOn h = record {
     octets = descrambled (mendedOn h) (s .history) 256;
-    status = releasedStatus (judged (R .sync) (s .octets) (h .parity)) (s .trusted);
+    status = releasedStatus (judged (R .sync) (s .octets) (parityOn h)) (s .trusted);
     command = s .command;
-    place = judged (R .sync) (s .octets) (h .parity) .place;
-    pattern = judged (R .sync) (s .octets) (h .parity) .pattern;
+    place = judged (R .sync) (s .octets) (parityOn h) .place;
+    pattern = judged (R .sync) (s .octets) (parityOn h) .pattern;
     invalid = s .invalid;
   }
 
   unfoldable pub waitingOn : ℕ → Bool → Heard → Receiver
-  waitingOn history trusted h = record { waiting = true; octets = h .octets; history = history; trusted = trusted; command = h .command; invalid = h .invalid }
+  waitingOn history trusted h = record { waiting = true; octets = h .octets; history = history; trusted = trusted; command = h .command; invalid = h .invalid; own = h .parts .own }
 
   unfoldable pub stepOn : Heard → Step
   stepOn h =
       pick (s .waiting)
-      (record { state = waitingOn (number (bitAt (mendedOn h)) 1990 58) (trustedAfter (judged (R .sync) (s .octets) (h .parity))) h; out = releaseOn h ∷ [] })
+      (record { state = waitingOn (number (bitAt (mendedOn h)) 1990 58) (trustedAfter (judged (R .sync) (s .octets) (parityOn h))) h; out = releaseOn h ∷ [] })
       (record { state = waitingOn 0 false h; out = [] })
 
   release-heard : (lane : ℕ → ℕ) (m : ℕ) → releaseAt R lane m s ≡ releaseOn (heardAt R lane m)
-  unfolding releaseAt mendedAt verdictAt heardAt releaseOn mendedOn
+  unfolding releaseAt mendedAt verdictAt parityAt heardAt releaseOn mendedOn parityOn
   release-heard lane m = refl
 
   pub step-heard : (lane : ℕ → ℕ) (m : ℕ) → step R lane m s ≡ stepOn (heardAt R lane m)
-  unfolding step waitingAt releaseAt mendedAt verdictAt heardAt stepOn releaseOn waitingOn mendedOn
+  unfolding step waitingAt releaseAt mendedAt verdictAt parityAt heardAt stepOn releaseOn waitingOn mendedOn parityOn
   step-heard lane m = refl
 
   module _ (f : ℕ → ℕ) (m : ℕ) (g : ℕ → ℕ) (n : ℕ) (e : heardAt R f m ≡ heardAt R g n) where
@@ -74,10 +77,10 @@ same-run R f g s (suc n) e =
     ap (λ (x : Step). then x (step R f n (x .state))) (same-run R f g s n (λ m h. e m (omega arith)))
     ∙ ap (then (run R g s n)) (same-step R (run R g s n .state) f n g n (e n (omega arith)))
 
--- only data bits, what the parity's and the command's headers read, and how many headers are invalid
+-- only data bits, what the parities' and the command's headers read, and how many headers are invalid
 pub same-reading : (R : Row) (f g : ℕ → ℕ) (s : Receiver) (n : ℕ)
     → ((m q : ℕ) → m < n → q < 2048 → dataBit (R .gap) f m q ≡ dataBit (R .gap) g m q)
-    → ((m : ℕ) → m < n → readParity (R .sync) (syncBit (R .gap) f m) ≡ readParity (R .sync) (syncBit (R .gap) g m))
+    → ((m : ℕ) → m < n → readParts (R .sync) (syncBit (R .gap) f m) ≡ readParts (R .sync) (syncBit (R .gap) g m))
     → ((m : ℕ) → m < n → flaggedCommand (R .sync) (headerAt (R .gap) f m) ≡ flaggedCommand (R .sync) (headerAt (R .gap) g m))
     → ((m : ℕ) → m < n → invalidHeaders (R .gap) f m ≡ invalidHeaders (R .gap) g m)
     → run R f s n ≡ run R g s n

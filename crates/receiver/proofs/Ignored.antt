@@ -10,7 +10,7 @@ use Rattle.bits.specs.Order.{bitAt}
 use Rattle.frame.specs.declared.modes.Row.{Row}
 use Rattle.frame.specs.Modes.{row}
 use Rattle.frame.specs.Lane.{laneOctets, headerPlace, dataPlace, inGap, dataBit, headerAt}
-use Rattle.frame.specs.SyncWord.{readParity, flaggedCommand}
+use Rattle.frame.specs.SyncWord.{readParts, flaggedCommand}
 use Rattle.frame.proofs.Lane.{same-sync, same-invalid}
 use Rattle.frame.proofs.Places.{data-is, header-same, header-in-none, second-in-none, data-in-none}
 use Rattle.receiver.specs.declared.Receiver.{Receiver}
@@ -34,7 +34,7 @@ module _ (R : Row) (f g : ℕ → ℕ) (same : (x : ℕ) → inGap (R .gap) x �
   run-ignores s n =
       same-reading R f g s n
       (λ m q h l. data-alike m q)
-      (λ m h. ap (readParity (R .sync)) (fun-ext (λ t. same-sync gap f g m t (header-alike m t))))
+      (λ m h. ap (readParts (R .sync)) (fun-ext (λ t. same-sync gap f g m t (header-alike m t))))
       (λ m h. ap (flaggedCommand (R .sync)) (fun-ext (header-alike m)))
       (λ m h. same-invalid gap f g m (λ t l. header-alike m t))
 

@@ -1,6 +1,6 @@
--- Releases by number: release i of a fresh receiver is multiblock i, judged by the parity in multiblock i + 1, after the history that
--- multiblock i - 1 left. Document 01, "What the receiver releases". Assumes nothing.
-use mathlib.Core.Path.{_≡_, refl, sym, ap, _∙_}
+-- Releases by number: release i of a fresh receiver is multiblock i, judged by the parity in its own sync word and in that of multiblock i + 1,
+-- after the history that multiblock i - 1 left. Document 01, "What the receiver releases". Assumes nothing.
+use mathlib.Core.Path.{_≡_, refl, sym, ap, ap₂, _∙_}
 use mathlib.Core.Bool.{Bool, true, false}
 use mathlib.Core.List.{List, [], _∷_, _++_, append-assoc}
 use Prim.Native.Nat.{ℕ, zero, suc, _+_, _-_, _*_, _<_}
@@ -13,12 +13,13 @@ use Rattle.bits.specs.Choice.{pick}
 use Rattle.bits.specs.Order.{bitAt, number}
 use Rattle.frame.specs.declared.modes.Row.{Row}
 use Rattle.frame.specs.Lane.{dataOctets, syncBit, invalidHeaders}
-use Rattle.frame.specs.SyncWord.{readParity}
+use Rattle.frame.specs.Modes.{before, own}
+use Rattle.frame.specs.SyncWord.{readParity, whole}
 use Rattle.scrambler.specs.Scrambling.{descrambled}
 use Rattle.judge.specs.declared.Verdict.{Verdict}
 use Rattle.receiver.specs.declared.Receiver.{Receiver}
 use Rattle.judge.specs.Judge.{judged, mended, releasedStatus, trustedAfter}
-use Rattle.receiver.specs.Release.{fresh, Release, Step, verdictAt, mendedAt, releaseAt, waitingAt, step, run}
+use Rattle.receiver.specs.Release.{fresh, Release, Step, parityAt, verdictAt, mendedAt, releaseAt, waitingAt, step, run}
 use Rattle.receiver.specs.Refusal.{releases}
 use Rattle.receiver.specs.Entry.{octetsOut, column}
 use Rattle.receiver.proofs.Counts.{then-waits, step-released, step-first, counts}
@@ -28,13 +29,9 @@ use Rattle.receiver.proofs.Buffers.{release-length}
 abbrev pub nth : List Release → ℕ → Release
 nth out i = getD out i (record { octets = []; status = 0; command = 0; place = 0; pattern = 0; invalid = 0 })
 
-either-octets : (w : Bool) (a b : Step) (l : List ℕ) → a .state .octets ≡ l → b .state .octets ≡ l → pick w a b .state .octets ≡ l
-either-octets true a b l h k = h
-either-octets false a b l h k = k
-
-either-invalid : (w : Bool) (a b : Step) (n : ℕ) → a .state .invalid ≡ n → b .state .invalid ≡ n → pick w a b .state .invalid ≡ n
-either-invalid true a b n h k = h
-either-invalid false a b n h k = k
+either : (P : Receiver → Type 0) (w : Bool) (a b : Step) → P (a .state) → P (b .state) → P (pick w a b .state)
+either P true a b h k = h
+either P false a b h k = k
 
 module _ (R : Row) (lane : ℕ → ℕ) where
   -- the state once multiblocks 0 to i have come: multiblock i waits
@@ -44,8 +41,8 @@ module _ (R : Row) (lane : ℕ → ℕ) where
   abbrev pub verdict : ℕ → Verdict
   verdict i = verdictAt R lane (suc i) (waiting i)
 
-  abbrev pub whole : ℕ → List ℕ
-  whole i = mendedAt R lane (suc i) (waiting i)
+  abbrev pub repaired : ℕ → List ℕ
+  repaired i = mendedAt R lane (suc i) (waiting i)
 
   pub waits : (i : ℕ) → waiting i .waiting ≡ true
   unfolding run
@@ -53,17 +50,28 @@ module _ (R : Row) (lane : ℕ → ℕ) where
 
   pub waiting-octets : (i : ℕ) → waiting i .octets ≡ dataOctets (R .gap) lane i
   unfolding run step waitingAt
-  waiting-octets i = either-octets (run R lane fresh i .state .waiting) _ _ (dataOctets (R .gap) lane i) refl refl
+  waiting-octets i = either (λ s. s .octets ≡ dataOctets (R .gap) lane i) (run R lane fresh i .state .waiting) _ _ refl refl
 
-  pub verdict-is : (i : ℕ) → verdict i ≡ judged (R .sync) (dataOctets (R .gap) lane i) (readParity (R .sync) (syncBit (R .gap) lane (suc i)))
-  unfolding verdictAt
-  verdict-is i = ap (λ (l : List ℕ). judged (R .sync) l (readParity (R .sync) (syncBit (R .gap) lane (suc i)))) (waiting-octets i)
+  waiting-own : (i : ℕ) → waiting i .own ≡ readParity (R .sync) own (syncBit (R .gap) lane i)
+  unfolding run step waitingAt
+  waiting-own i = either (λ s. s .own ≡ readParity (R .sync) own (syncBit (R .gap) lane i)) (run R lane fresh i .state .waiting) _ _ refl refl
 
-  pub whole-is : (i : ℕ) → whole i ≡ mended (verdict i) (dataOctets (R .gap) lane i)
+  -- the parity received of multiblock i: a part in its own sync word, and a part in the next
+  abbrev pub parityOn : ℕ → ℕ
+  parityOn i =
+      whole (R .sync) (record { before = readParity (R .sync) before (syncBit (R .gap) lane (suc i)); own = readParity (R .sync) own (syncBit (R .gap) lane i) })
+
+  pub verdict-is : (i : ℕ) → verdict i ≡ judged (R .sync) (dataOctets (R .gap) lane i) (parityOn i)
+  unfolding verdictAt parityAt
+  verdict-is i =
+      ap₂ (λ (l : List ℕ) (x : ℕ). judged (R .sync) l (whole (R .sync) (record { before = readParity (R .sync) before (syncBit (R .gap) lane (suc i)); own = x })))
+      (waiting-octets i) (waiting-own i)
+
+  pub repaired-is : (i : ℕ) → repaired i ≡ mended (verdict i) (dataOctets (R .gap) lane i)
   unfolding mendedAt
-  whole-is i = ap (mended (verdict i)) (waiting-octets i)
+  repaired-is i = ap (mended (verdict i)) (waiting-octets i)
 
-  pub octets-are : (i : ℕ) → releaseAt R lane (suc i) (waiting i) .octets ≡ descrambled (whole i) (waiting i .history) 256
+  pub octets-are : (i : ℕ) → releaseAt R lane (suc i) (waiting i) .octets ≡ descrambled (repaired i) (waiting i .history) 256
   unfolding releaseAt
   octets-are i = refl
 
@@ -74,7 +82,7 @@ module _ (R : Row) (lane : ℕ → ℕ) where
   -- a release tells its own invalid headers
   waiting-invalid : (i : ℕ) → waiting i .invalid ≡ invalidHeaders (R .gap) lane i
   unfolding run step waitingAt
-  waiting-invalid i = either-invalid (run R lane fresh i .state .waiting) _ _ (invalidHeaders (R .gap) lane i) refl refl
+  waiting-invalid i = either (λ s. s .invalid ≡ invalidHeaders (R .gap) lane i) (run R lane fresh i .state .waiting) _ _ refl refl
 
   pub invalid-is : (i : ℕ) → releaseAt R lane (suc i) (waiting i) .invalid ≡ invalidHeaders (R .gap) lane i
   unfolding releaseAt
@@ -90,10 +98,10 @@ module _ (R : Row) (lane : ℕ → ℕ) where
   unfolding step
   step-next m s w = simp w
 
-  next-state : (i : ℕ) → waiting (suc i) ≡ waitingAt R lane (suc i) (number (bitAt (whole i)) 1990 58) (trustedAfter (verdict i))
+  next-state : (i : ℕ) → waiting (suc i) ≡ waitingAt R lane (suc i) (number (bitAt (repaired i)) 1990 58) (trustedAfter (verdict i))
   next-state i = unfold run in (step-next (suc i) (waiting i) (waits i))
 
-  pub next-history : (i : ℕ) → waiting (suc i) .history ≡ number (bitAt (whole i)) 1990 58
+  pub next-history : (i : ℕ) → waiting (suc i) .history ≡ number (bitAt (repaired i)) 1990 58
   unfolding waitingAt
   next-history i = ap (λ (s : Receiver). s .history) (next-state i)
 
@@ -111,8 +119,8 @@ module _ (R : Row) (lane : ℕ → ℕ) where
   -- the last of n + 1, or one of those before
   last-or : (n i : ℕ) → i < suc n → (i < n → nth (run R lane fresh (suc n) .out) i ≡ releaseAt R lane (suc i) (waiting i)) → Dec (i < n)
       → nth (run R lane fresh (suc n) .out ++ (releaseAt R lane (suc n) (waiting n) ∷ [])) i ≡ releaseAt R lane (suc i) (waiting i)
-  last-or n i h before (yes l) = List·getD-append (run R lane fresh (suc n) .out) _ _ i (omega (arith, so-many n)) ∙ before l
-  last-or n i h before (no l) =
+  last-or n i h earlier (yes l) = List·getD-append (run R lane fresh (suc n) .out) _ _ i (omega (arith, so-many n)) ∙ earlier l
+  last-or n i h earlier (no l) =
       let e : i ≡ n = omega arith in
       getD-at (run R lane fresh (suc n) .out) (releaseAt R lane (suc n) (waiting n)) [] _ i (so-many n ∙ sym e) ∙ ap (λ (k : ℕ). releaseAt R lane (suc k) (waiting k)) (sym e)
 

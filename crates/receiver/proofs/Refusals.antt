@@ -19,46 +19,56 @@ use Rattle.receiver.specs.inner.Turn.{Room}
 
 -- ---- the state
 
-pub all-fresh : (s : Receiver) (zeros : Bool) → s .history ≡ 0 → s .command ≡ 0 → s .invalid ≡ 0 → s .trusted ≡ false → zeros ≡ allZero (s .octets) → zeros ≡ asFresh s
+pub all-fresh : (s : Receiver) (zeros : Bool) → s .history ≡ 0 → s .command ≡ 0 → s .invalid ≡ 0 → s .own ≡ 0 → s .trusted ≡ false → zeros ≡ allZero (s .octets) → zeros ≡ asFresh s
 unfolding asFresh
-all-fresh s zeros h c i t z = z ∙ sym (simp (eq-eqb (s .history) 0 h, eq-eqb (s .command) 0 c, eq-eqb (s .invalid) 0 i, t))
+all-fresh s zeros h c i o t z =
+    z ∙ sym (simp (eq-eqb (s .history) 0 h, eq-eqb (s .command) 0 c, eq-eqb (s .invalid) 0 i, eq-eqb (s .own) 0 o, t))
 
-module _ (flagged : ℕ) (s : Receiver) where
-  fits-by : Bool → Bool → Bool → Bool → Bool
-  fits-by h c i w = (h && (c && i)) && (w || asFresh s)
+module _ (flagged owns : ℕ) (s : Receiver) where
+  fits-by : Bool → Bool → Bool → Bool → Bool → Bool
+  fits-by h c i o w = (h && (c && (i && o))) && (w || asFresh s)
 
-  fits-is : stateFits flagged s ≡ fits-by (ltb (s .history) (2 ^ 58)) (ltb (s .command) flagged) (leb (s .invalid) 32) (s .waiting)
+  fits-is : stateFits flagged owns s ≡ fits-by (ltb (s .history) (2 ^ 58)) (ltb (s .command) flagged) (leb (s .invalid) 32) (ltb (s .own) owns) (s .waiting)
   unfolding stateFits fits-by asFresh
   fits-is = refl
 
-  pub late-history : 2 ^ 58 ≤ s .history → false ≡ stateFits flagged s
+  pub late-history : 2 ^ 58 ≤ s .history → false ≡ stateFits flagged owns s
   unfolding fits-by
-  late-history h = sym (fits-is ∙ ap (λ (a : Bool). fits-by a (ltb (s .command) flagged) (leb (s .invalid) 32) (s .waiting)) (le-ltb (s .history) (2 ^ 58) h))
+  late-history h =
+      sym (fits-is ∙ ap (λ (a : Bool). fits-by a (ltb (s .command) flagged) (leb (s .invalid) 32) (ltb (s .own) owns) (s .waiting)) (le-ltb (s .history) (2 ^ 58) h))
 
   module _ (h : s .history < 2 ^ 58) where
-    timely : (c : Bool) → ltb (s .command) flagged ≡ c → stateFits flagged s ≡ fits-by true c (leb (s .invalid) 32) (s .waiting)
-    timely c e = fits-is ∙ ap₂ (λ (a b : Bool). fits-by a b (leb (s .invalid) 32) (s .waiting)) (lt-ltb (s .history) (2 ^ 58) h) e
+    timely : (c : Bool) → ltb (s .command) flagged ≡ c → stateFits flagged owns s ≡ fits-by true c (leb (s .invalid) 32) (ltb (s .own) owns) (s .waiting)
+    timely c e = fits-is ∙ ap₂ (λ (a b : Bool). fits-by a b (leb (s .invalid) 32) (ltb (s .own) owns) (s .waiting)) (lt-ltb (s .history) (2 ^ 58) h) e
 
-    pub wide-command : flagged ≤ s .command → false ≡ stateFits flagged s
+    pub wide-command : flagged ≤ s .command → false ≡ stateFits flagged owns s
     unfolding fits-by
     wide-command c = sym (timely false (le-ltb (s .command) flagged c))
 
     module _ (c : s .command < flagged) where
-      narrow : (i : Bool) → leb (s .invalid) 32 ≡ i → stateFits flagged s ≡ fits-by true true i (s .waiting)
-      narrow i e = timely true (lt-ltb (s .command) flagged c) ∙ ap (λ (a : Bool). fits-by true true a (s .waiting)) e
+      narrow : (i : Bool) → leb (s .invalid) 32 ≡ i → stateFits flagged owns s ≡ fits-by true true i (ltb (s .own) owns) (s .waiting)
+      narrow i e = timely true (lt-ltb (s .command) flagged c) ∙ ap (λ (a : Bool). fits-by true true a (ltb (s .own) owns) (s .waiting)) e
 
-      pub many-invalid : 32 < s .invalid → false ≡ stateFits flagged s
+      pub many-invalid : 32 < s .invalid → false ≡ stateFits flagged owns s
       unfolding fits-by
       many-invalid i = sym (narrow false (lt-leb (s .invalid) 32 i))
 
       module _ (i : s .invalid ≤ 32) where
-        pub waiting-fits : s .waiting ≡ true → true ≡ stateFits flagged s
-        unfolding fits-by
-        waiting-fits w = sym (narrow true (le-leb (s .invalid) 32 i) ∙ ap (fits-by true true true) w)
+        few : (o : Bool) → ltb (s .own) owns ≡ o → stateFits flagged owns s ≡ fits-by true true true o (s .waiting)
+        few o e = narrow true (le-leb (s .invalid) 32 i) ∙ ap (λ (a : Bool). fits-by true true true a (s .waiting)) e
 
-        pub idle-fits : s .waiting ≡ false → asFresh s ≡ stateFits flagged s
+        pub wide-own : owns ≤ s .own → false ≡ stateFits flagged owns s
         unfolding fits-by
-        idle-fits w = sym (narrow true (le-leb (s .invalid) 32 i) ∙ ap (fits-by true true true) w)
+        wide-own o = sym (few false (le-ltb (s .own) owns o))
+
+        module _ (o : s .own < owns) where
+          pub waiting-fits : s .waiting ≡ true → true ≡ stateFits flagged owns s
+          unfolding fits-by
+          waiting-fits w = sym (few true (lt-ltb (s .own) owns o) ∙ ap (fits-by true true true true) w)
+
+          pub idle-fits : s .waiting ≡ false → asFresh s ≡ stateFits flagged owns s
+          unfolding fits-by
+          idle-fits w = sym (few true (lt-ltb (s .own) owns o) ∙ ap (fits-by true true true true) w)
 
 -- ---- the order of the numbers
 
@@ -67,7 +77,7 @@ module _ (mode : ℕ) (s : Receiver) (lane octets statuses commands places patte
   pub by-code : most ≡ row mode .most → numbers ≡ numbersOf (row mode)
       → refusalBy (
       1 when not (known mode)
-      ∷ 3 when not (stateFits (numbers .flagged) s)
+      ∷ 3 when not (stateFits (numbers .flagged) (numbers .owns) s)
       ∷ 4 when not (eqb (lane % numbers .octets) 0)
       ∷ 5 when ltb most (lane / numbers .octets)
       ∷ 7 when not (roomFor (releases (s .waiting) (lane / numbers .octets)) octets statuses commands places patterns invalid)

@@ -14,11 +14,12 @@ use Rattle.scrambler.specs.Scrambling.{descrambled}
 use Rattle.scrambler.proofs.Scrambling.{length-descrambled}
 use Rattle.frame.specs.declared.modes.Row.{Row}
 use Rattle.frame.specs.Lane.{laneOctets}
+use Rattle.frame.specs.SyncWord.{whole}
 use Rattle.judge.specs.declared.Released.{Released}
 use Rattle.receiver.specs.declared.Receiver.{Receiver}
 use Rattle.receiver.specs.declared.run.Heard.{Heard}
 use Rattle.judge.specs.Judge.{judged, mended, releasedStatus, trustedAfter}
-use Rattle.receiver.specs.Release.{Release, Step, verdictAt, mendedAt, releaseAt, waitingAt, step, run}
+use Rattle.receiver.specs.Release.{Release, Step, parityAt, verdictAt, mendedAt, releaseAt, waitingAt, step, run}
 use Rattle.receiver.specs.Entry.{octetsOut, column, done, laidOut}
 use Rattle.receiver.specs.inner.Turn.{heardAt, Room, Turned}
 use Rattle.receiver.proofs.Buffers.{column-more, column-length, octets-more, release-length, octets-length}
@@ -28,21 +29,23 @@ use Rattle.receiver.proofs.Cut.{same-step, same-release, heard-from, bi
 -- ---- one turn
 
 -- what the code of a turn computes, put together
-pub turned : (R : Row) (s : Receiver) (lane : List ℕ) (k : ℕ) (o st c p q i o′ : List ℕ) (heard : Heard) (r : Released)
+pub turned : (R : Row) (s : Receiver) (lane : List ℕ) (k : ℕ) (o st c p q i o′ : List ℕ) (heard : Heard) (parity : ℕ) (r : Released)
     → s .waiting ≡ true
     → 256 ≤ length o
     → heard ≡ heardAt R (bitAt lane) 0
-    → r .verdict ≡ judged (R .sync) (s .octets) (heard .parity)
+    → parity ≡ whole (R .sync) (record { before = heard .parts .before; own = s .own })
+    → r .verdict ≡ judged (R .sync) (s .octets) parity
     → r .status ≡ releasedStatus (r .verdict) (s .trusted)
     → r .history ≡ number (bitAt (mended (r .verdict) (s .octets))) 1990 58
     → r .trusted ≡ trustedAfter (r .verdict)
     → o′ ≡ laidAt (descrambled (mended (r .verdict) (s .octets)) (s .history) 256) 0 o
     → Turned (step R (bitAt lane) 0 s .state) (releaseAt R (bitAt lane) 0 s) k
-    (record { waiting = true; octets = heard .octets; history = r .history; trusted = r .trusted; command = heard .command; invalid = heard .invalid })
+    (record { waiting = true; octets = heard .octets; history = r .history; trusted = r .trusted; command = heard .command; invalid = heard .invalid; own = heard .parts .own })
     o st c p q i o′ (set st k (r .status)) (set c k (s .command)) (set p k (r .verdict .place)) (set q k (r .verdict .pattern)) (set i k (s .invalid))
-unfolding step waitingAt releaseAt mendedAt verdictAt heardAt
-turned R s lane k o st c p q i o′ heard r w room eh ev em ey et eo =
-    let own : r .verdict ≡ verdictAt R (bitAt lane) 0 s = ev ∙ ap (λ (h : Heard). judged (R .sync) (s .octets) (h .parity)) eh in
+unfolding step waitingAt releaseAt mendedAt verdictAt parityAt heardAt
+turned R s lane k o st c p q i o′ heard parity r w room eh ep ev em ey et eo =
+    let own : r .verdict ≡ verdictAt R (bitAt lane) 0 s =
+    ev ∙ ap (judged (R .sync) (s .octets)) (ep ∙ ap (λ (h : Heard). whole (R .sync) (record { before = h .parts .before; own = s .own })) eh) in
     record {
       state = rw (w, eh, ey, et, own);
       octets = eo ∙ laid-start _ o (omega (arith, length-descrambled (mended (r .verdict) (s .octets)) (s .history) 256)) ∙ rw own;

@@ -6,14 +6,12 @@ use Prim.Native.Nat.{ℕ, _%_, _≤_}
 use native.Mathlib.Omega.{arith}
 use Rattle.frame.specs.declared.modes.Sync.{Sync}
 use Rattle.frame.specs.declared.modes.Row.{Row}
-use Rattle.frame.specs.Lane.{syncBit}
-use Rattle.frame.specs.SyncWord.{readParity}
 use Rattle.judge.specs.declared.Verdict.{Verdict}
 use Rattle.judge.specs.Judge.{judged, releasedStatus}
 use Rattle.judge.proofs.Verdicts.{Cases, Judged, verdict-cases}
 use Rattle.judge.proofs.Judging.{status-trusted, status-untrusted}
 use Rattle.receiver.specs.declared.Receiver.{Receiver}
-use Rattle.receiver.specs.Release.{Release, verdictAt, releaseAt}
+use Rattle.receiver.specs.Release.{Release, parityAt, verdictAt, releaseAt}
 
 -- a status is one of 0, 1, 2, 4, 5, 6; a place and a pattern stand with 1 and 5 alone
 pub record Released (S : Sync) (r : Release) : Type 0 where
@@ -26,10 +24,10 @@ module _ (R : Row) (lane : ℕ → ℕ) where
   release-cases m s = by (s .trusted)
     where
       v : Verdict
-      v = judged (R .sync) (s .octets) (readParity (R .sync) (syncBit (R .gap) lane m))
+      v = judged (R .sync) (s .octets) (parityAt R lane m s)
 
       j : Judged (R .sync) v
-      j = verdict-cases (R .sync) (s .octets) (readParity (R .sync) (syncBit (R .gap) lane m))
+      j = verdict-cases (R .sync) (s .octets) (parityAt R lane m s)
 
       by : (t : Bool) → Released (R .sync) (record { octets = releaseAt R lane m s .octets; status = releasedStatus v t; command = s .command; place = v .place; pattern = v .pattern; invalid = s .invalid })
       by true = record {

@@ -1,4 +1,4 @@
--- What a receiver refuses, and by which number: document 01, "Numbers of refusal"; request 1. Assumes nothing.
+-- What a receiver refuses, and by which number: document 01, "Numbers of refusal"; requests 1 and 5. Assumes nothing.
 use mathlib.Core.Bool.{Bool, true, not, _&&_, _||_}
 use mathlib.Core.List.{List, [], _∷_}
 use Prim.Native.Nat.{ℕ, _-_, _*_, _/_, _%_, _^_}
@@ -15,11 +15,12 @@ allZero (x ∷ l) = eqb x 0 && allZero l
 
 -- all but the waiting flag is as in a fresh state
 unfoldable pub asFresh : Receiver → Bool
-asFresh s = (eqb (s .history) 0 && (eqb (s .command) 0 && eqb (s .invalid) 0)) && (not (s .trusted) && allZero (s .octets))
+asFresh s = (eqb (s .history) 0 && (eqb (s .command) 0 && (eqb (s .invalid) 0 && eqb (s .own) 0))) && (not (s .trusted) && allZero (s .octets))
 
--- each field of a state is in its range, its command below a bound, and with nothing waiting all are as in a fresh one
-unfoldable pub stateFits : ℕ → Receiver → Bool
-stateFits flagged s = (ltb (s .history) (2 ^ 58) && (ltb (s .command) flagged && leb (s .invalid) 32)) && (s .waiting || asFresh s)
+-- each field of a state is in its range, its command and its own part of the parity below bounds, and with nothing waiting all are as in a fresh one
+unfoldable pub stateFits : ℕ → ℕ → Receiver → Bool
+stateFits flagged owns s =
+    (ltb (s .history) (2 ^ 58) && (ltb (s .command) flagged && (leb (s .invalid) 32 && ltb (s .own) owns))) && (s .waiting || asFresh s)
 
 -- how many are released when n are received
 unfoldable pub releases : Bool → ℕ → ℕ
@@ -37,7 +38,7 @@ refusals mode s lane octets statuses commands places patterns invalid =
     let numbers = numbersOf (row mode) in
     let n = lane / numbers .octets in
     1 when not (known mode)
-    ∷ 3 when not (stateFits (numbers .flagged) s)
+    ∷ 3 when not (stateFits (numbers .flagged) (numbers .owns) s)
     ∷ 4 when not (eqb (lane % numbers .octets) 0)
     ∷ 5 when ltb (row mode .most) n
     ∷ 7 when not (roomFor (releases (s .waiting) n) octets statuses commands places patterns invalid)

@@ -1,5 +1,5 @@
 -- A multiblock waits until the next one has arrived with its parity, and is then released: document 01, "What the receiver releases";
--- request 1.
+-- requests 1 and 5.
 -- A lane is a stream of bits; multiblock m of it is the next to be received. Assumes nothing.
 use mathlib.Core.Bool.{Bool, true, false}
 use mathlib.Core.List.{List, [], _∷_, _++_}
@@ -10,14 +10,15 @@ use Rattle.bits.specs.Order.{bitAt, number}
 use Rattle.scrambler.specs.Scrambling.{descrambled}
 use Rattle.frame.specs.declared.modes.Row.{Row}
 use Rattle.frame.specs.Lane.{dataOctets, headerAt, syncBit, invalidHeaders}
-use Rattle.frame.specs.SyncWord.{readParity, flaggedCommand}
+use Rattle.frame.specs.Modes.{before, own}
+use Rattle.frame.specs.SyncWord.{readParity, whole, flaggedCommand}
 use Rattle.judge.specs.declared.Verdict.{Verdict}
 use Rattle.receiver.specs.declared.Receiver.{Receiver}
 use Rattle.judge.specs.Judge.{judged, mended, releasedStatus, trustedAfter}
 
 -- nothing waiting, history 0 and no trust
 abbrev pub fresh : Receiver
-fresh = record { waiting = false; octets = replicate 256 0; history = 0; trusted = false; command = 0; invalid = 0 }
+fresh = record { waiting = false; octets = replicate 256 0; history = 0; trusted = false; command = 0; invalid = 0; own = 0 }
 
 pub record Release : Type 0 where
   pub octets : List ℕ
@@ -33,9 +34,13 @@ pub record Step : Type 0 where
   pub out : List Release
 
 module _ (R : Row) (lane : ℕ → ℕ) where
-  -- what the sync word of multiblock m tells of the multiblock that waits
+  -- the parity received of the multiblock that waits: its own sync word's part of it, which waits with it, and the part in that of multiblock m
+  unfoldable pub parityAt : ℕ → Receiver → ℕ
+  parityAt m s = whole (R .sync) (record { before = readParity (R .sync) before (syncBit (R .gap) lane m); own = s .own })
+
+  -- what it tells of that multiblock
   unfoldable pub verdictAt : ℕ → Receiver → Verdict
-  verdictAt m s = judged (R .sync) (s .octets) (readParity (R .sync) (syncBit (R .gap) lane m))
+  verdictAt m s = judged (R .sync) (s .octets) (parityAt m s)
 
   unfoldable pub mendedAt : ℕ → Receiver → List ℕ
   mendedAt m s = mended (verdictAt m s) (s .octets)
@@ -59,6 +64,7 @@ module _ (R : Row) (lane : ℕ → ℕ) where
     trusted = trusted;
     command = flaggedCommand (R .sync) (headerAt (R .gap) lane m);
     invalid = invalidHeaders (R .gap) lane m;
+    own = readParity (R .sync) own (syncBit (R .gap) lane m);
   }
 
   -- multiblock m is received: the one that waits, if there is one, is released; the next history is its last 58 bits, mended

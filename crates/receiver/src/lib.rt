@@ -9,7 +9,7 @@ mod run;
 use frame::modes;
 
 // What a receiver carries from one call to the next: whether a multiblock waits, its 256 scrambled octets, the history before it, whether
-// that is trusted, its command, and how many of its headers were invalid.
+// that is trusted, its command, how many of its headers were invalid, and what its own sync word carried of its parity (request 5).
 pub struct Receiver {
     pub waiting: bool,
     pub octets: [u8; 256],
@@ -17,6 +17,7 @@ pub struct Receiver {
     pub trusted: bool,
     pub command: u32,
     pub invalid: u8,
+    pub own: u16,
 }
 
 // A refusal, or 0 with the multiblocks released; and the state for the next call.
@@ -37,6 +38,7 @@ impl Receiver {
             trusted: false,
             command: 0,
             invalid: 0,
+            own: 0,
         }
     }
 }

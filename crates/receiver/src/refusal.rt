@@ -31,6 +31,9 @@ fn as_fresh(state: Receiver) -> bool
     if state.invalid != 0 {
         return false;
     }
+    if state.own != 0 {
+        return false;
+    }
     if state.trusted {
         return false;
     }
@@ -38,9 +41,9 @@ fn as_fresh(state: Receiver) -> bool
     all_zero(&octets[..])
 }
 
-// Whether each field of a state is in its range, where commands with their flag are below a bound.
-fn state_fits(flagged: u32, state: Receiver) -> bool
-    ensures { λ r. ⌜ r ≡ stateFits flagged state ⌝ }
+// Whether each field of a state is in its range, where commands with their flag and own parts of parities are below bounds.
+fn state_fits(flagged: u32, owns: u16, state: Receiver) -> bool
+    ensures { λ r. ⌜ r ≡ stateFits flagged owns state ⌝ }
 {
     if state.history >= 0x400_0000_0000_0000 {
         return false;
@@ -49,6 +52,9 @@ fn state_fits(flagged: u32, state: Receiver) -> bool
         return false;
     }
     if state.invalid > 32 {
+        return false;
+    }
+    if state.own >= owns {
         return false;
     }
     if state.waiting {
@@ -124,7 +130,7 @@ pub(crate) fn refusal_of(
     if !modes::known(mode) {
         return 1;
     }
-    if !state_fits(numbers.flagged, state) {
+    if !state_fits(numbers.flagged, numbers.owns, state) {
         return 3;
     }
     let size = numbers.octets;

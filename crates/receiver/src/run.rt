@@ -15,12 +15,13 @@ use crate::Receiver;
 use frame::headers;
 use frame::modes::Row;
 use frame::sync;
+use frame::sync::Parts;
 
-// What a multiblock tells: its data octets as they came, the parity of the one before it, its command, and how many of its
-// headers were invalid.
+// What a multiblock tells: its data octets as they came, what it carries of the parity of the one before it and of its own, its command, and
+// how many of its headers were invalid.
 pub(crate) struct Heard {
     octets: [u8; 256],
-    parity: u32,
+    parts: Parts,
     command: u32,
     invalid: u8,
 }
@@ -33,12 +34,12 @@ fn hear(row: Row, lane: &[u8]) -> Heard
     let octets = read.octets;
     let kind = row.sync;
     let bits = headers::carried(read.first, read.second);
-    let parity = sync::parity(kind, bits);
+    let parts = sync::parities(kind, bits);
     let command = sync::command(kind, read.first, read.second);
     let invalid = headers::invalid_count(read.first, read.second);
     Heard {
         octets,
-        parity,
+        parts,
         command,
         invalid,
     }
@@ -64,6 +65,7 @@ pub(crate) fn begin(row: Row, size: usize, state: Receiver, lane: &[u8]) -> Begu
     }
     let first = hear(row, lane);
     let octets = first.octets;
+    let parts = first.parts;
     let waiting = Receiver {
         waiting: true,
         octets,
@@ -71,6 +73,7 @@ pub(crate) fn begin(row: Row, size: usize, state: Receiver, lane: &[u8]) -> Begu
         trusted: false,
         command: first.command,
         invalid: first.invalid,
+        own: parts.own,
     };
     Begun {
         state: waiting,
@@ -98,14 +101,19 @@ fn release(
         (now (octets .exit)) (now (statuses .exit)) (now (commands .exit)) (now (places .exit)) (now (patterns .exit)) (now (invalid .exit)) ⌝ }
 {
     let heard = hear(row, lane);
-    let own = state.octets;
+    let waited = state.octets;
     let kind = row.sync;
+    let parts = heard.parts;
+    let received = Parts {
+        before: parts.before,
+        own: state.own,
+    };
     let released = judge::release(
         kind,
-        own,
+        waited,
         state.history,
         state.trusted,
-        heard.parity,
+        sync::whole(kind, received),
         octets,
     );
     let verdict = released.verdict;
@@ -122,6 +130,7 @@ fn release(
         trusted: released.trusted,
         command: heard.command,
         invalid: heard.invalid,
+        own: parts.own,
     }
 }
 

@@ -10,11 +10,12 @@ use lib.Seq.{drop-drop, drop-at, take-append-le, drop-append-le}
 use Rattle.bits.specs.Choice.{bitOf}
 use Rattle.scrambler.specs.Scrambling.{scrambled}
 use Rattle.frame.specs.declared.modes.Row.{Row}
+use Rattle.frame.specs.declared.sync.Parts.{Parts}
 use Rattle.frame.specs.Lane.{laneOctets}
 use Rattle.frame.specs.SyncWord.{syncWord}
 use Rattle.frame.proofs.Sizes.{length-multiblock}
 use Rattle.sender.specs.declared.Sender.{Sender}
-use Rattle.sender.specs.Lane.{last, sentOne, afterOne, lane, after}
+use Rattle.sender.specs.Lane.{last, partsSent, sentOne, afterOne, lane, after}
 
 module _ (R : Row) (E : ℕ) where
   -- ---- more commands, and the user octets that are left for them
@@ -86,7 +87,9 @@ module _ (R : Row) (E : ℕ) where
 
   pub one-length : (s : Sender) (user : List ℕ) (c : ℕ) → length (sentOne R E s user c) ≡ laneOctets (R .gap)
   unfolding sentOne
-  one-length s user c = length-multiblock (R .gap) (s .fill) (syncWord (R .sync) (s .parity) c (bitOf (last E s))) (scrambled user (s .history) 256)
+  one-length s user c =
+      let parts : Parts = record { before = s .parity; own = partsSent R s user .own } in
+      length-multiblock (R .gap) (s .fill) (syncWord (R .sync) parts c (bitOf (last E s))) (scrambled user (s .history) 256)
 
   pub lane-length : (s : Sender) (user commands : List ℕ) → length (lane R E s user commands) ≡ laneOctets (R .gap) * length commands
   unfolding lane

@@ -1,4 +1,4 @@
--- States in range: a run that starts in one leaves one, and a fresh state is one. Document 01, "Numbers of refusal", line 3.
+-- States in range: a run that starts in one leaves one, and a fresh state is one. Document 01, "Numbers of refusal", line 3; request 5.
 -- Assumes nothing.
 use mathlib.Core.Path.{_≡_}
 use mathlib.Core.Bool.{true}
@@ -14,14 +14,14 @@ use Rattle.bits.specs.Order.{bitAt}
 use Rattle.bits.proofs.Choice.{pick-both, both-true, parts-true}
 use Rattle.scrambler.specs.Scrambling.{scrambled}
 use Rattle.scrambler.proofs.Scrambling.{history-lt}
-use Rattle.parity.proofs.Codeword.{parity-lt}
+use Rattle.parity.specs.Codeword.{multiblockParity}
 use Rattle.frame.specs.declared.modes.Row.{Row}
-use Rattle.frame.specs.Modes.{code}
+use Rattle.frame.specs.Modes.{before, code, parityWidth}
 use Rattle.frame.specs.Lane.{fillBound}
-use Rattle.frame.proofs.Rows.{proper}
+use Rattle.frame.proofs.Groups.{split-lt}
 use Rattle.frame.proofs.Lane.{fill-fits, fill-some}
 use Rattle.sender.specs.declared.Sender.{Sender}
-use Rattle.sender.specs.Lane.{fresh, afterOne, after}
+use Rattle.sender.specs.Lane.{fresh, partsSent, afterOne, after}
 use Rattle.sender.specs.Refusal.{stateFits}
 
 -- the number of the next multiblock is below E again
@@ -32,13 +32,13 @@ number-lt n E h =
 -- each field in its range
 pub record Fits (R : Row) (E : ℕ) (s : Sender) : Type 0 where
   pub history : s .history < 2 ^ 58
-  pub parity : s .parity < 2 ^ code (R .sync) .width
+  pub parity : s .parity < 2 ^ parityWidth (R .sync) before  -- of a multiblock's parity the part that the next sync word carries
   pub number : s .number < E
   pub fill : s .fill < fillBound (R .gap)
 
 module _ (R : Row) (E : ℕ) where
   abbrev bound : ℕ
-  bound = 2 ^ code (R .sync) .width
+  bound = 2 ^ parityWidth (R .sync) before
 
   abbrev fills : ℕ
   fills = fillBound (R .gap)
@@ -64,10 +64,10 @@ module _ (R : Row) (E : ℕ) where
   one-number s user h = number-lt (s .number) E h
 
   one-fits : (s : Sender) (user : List ℕ) → Fits R E s → Fits R E (afterOne R E s user)
-  unfolding afterOne
+  unfolding afterOne partsSent
   one-fits s user f = record {
     history = history-lt (bitAt user) (s .history) 2048;
-    parity = parity-lt (code (R .sync)) (proper (R .sync) .fits) (scrambled user (s .history) 256);
+    parity = split-lt (R .sync) (multiblockParity (code (R .sync)) (bitAt (scrambled user (s .history) 256))) .0;
     number = number-lt (s .number) E (f .number);
     fill = fill-fits (R .gap) (s .fill) (f .fill);
   }
@@ -78,4 +78,4 @@ module _ (R : Row) (E : ℕ) where
   run-fits s user (c ∷ commands) f = run-fits (afterOne R E s (take 256 user)) (drop 256 user) commands (one-fits s (take 256 user) f)
 
   pub fresh-fits : 1 ≤ E → Fits R E fresh
-  fresh-fits h = record { history = pow-pos 58; parity = pow-pos (code (R .sync) .width); number = h; fill = fill-some (R .gap) }
+  fresh-fits h = record { history = pow-pos 58; parity = pow-pos (parityWidth (R .sync) before); number = h; fill = fill-some (R .gap) }

@@ -15,32 +15,34 @@ use Rattle.bits.specs.Order.{bitAt, octetsOf, wordBit, wordsOf, octetsIn, laid,
 use Rattle.bits.proofs.Laid.{laid-nothing, laid-start, laid-part}
 use Rattle.scrambler.specs.Scrambling.{sent, scrambled, historyAfter}
 use Rattle.scrambler.proofs.Scrambling.{scrambled-words, scrambled-blocks}
-use Rattle.parity.specs.Codeword.{parityOf}
+use Rattle.parity.specs.Codeword.{multiblockParity}
 use Rattle.frame.specs.declared.modes.Row.{Row}
+use Rattle.frame.specs.declared.sync.Parts.{Parts}
 use Rattle.frame.specs.Modes.{code}
 use Rattle.frame.specs.Lane.{laneOctets, multiblock, fillAfter}
-use Rattle.frame.specs.SyncWord.{syncWord}
+use Rattle.frame.specs.SyncWord.{syncWord, split}
 use Rattle.multiblock.specs.Shape.{shape}
 use Rattle.sender.specs.declared.Sender.{Sender}
-use Rattle.sender.specs.Lane.{last, sentOne, afterOne, lane, after}
+use Rattle.sender.specs.Lane.{last, partsSent, sentOne, afterOne, lane, after}
 use Rattle.sender.proofs.Runs.{after-one, lane-one, one-length, lane-length}
 use Rattle.sender.proofs.States.{one-number}
 
 -- ---- one multiblock, as the code puts it together
 
-module _ (R : Row) (own-gap : shape (R .gap) ≡ R .gap) (E : ℕ) (s : Sender) (user blocks old all : List ℕ) (command history sync parity number fill : ℕ) (room : laneOctets (R .gap) ≤ length old) where
+module _ (R : Row) (own-gap : shape (R .gap) ≡ R .gap) (E : ℕ) (s : Sender) (user blocks old all : List ℕ) (command history sync parity number fill : ℕ) (parts : Parts) (room : laneOctets (R .gap) ≤ length old) where
   pub sent-one : blocks ≡ wordsOf (sent (bitAt user) (s .history)) 32 → history ≡ historyAfter (bitAt user) (s .history) 2048
-      → sync ≡ syncWord (R .sync) (s .parity) command (bitOf (last E s)) → all ≡ laidAt (multiblock (shape (R .gap)) (s .fill) sync (octetsOf (wordBit blocks) 256)) 0 old
-      → parity ≡ parityOf (code (R .sync)) (octetsIn blocks) → number ≡ pick (last E s) 0 (s .number + 1)
+      → sync ≡ syncWord (R .sync) (record { before = s .parity; own = parts .own }) command (bitOf (last E s)) → all ≡ laidAt (multiblock (shape (R .gap)) (s .fill) sync (octetsOf (wordBit blocks) 256)) 0 old
+      → parity ≡ multiblockParity (code (R .sync)) (bitAt (octetsIn blocks)) → parts ≡ split (R .sync) parity → number ≡ pick (last E s) 0 (s .number + 1)
       → fill ≡ pick (leb (laneOctets (shape (R .gap))) (length old)) (fillAfter (shape (R .gap)) (s .fill)) (s .fill)
-      → (_≡_ {A = Sender} (record { history = history; parity = parity; number = number; fill = fill }) (afterOne R E s user)) × (all ≡ laid (sentOne R E s user command) old)
-  unfolding afterOne sentOne
-  sent-one eb eh es ea ep en ef =
+      → (_≡_ {A = Sender} (record { history = history; parity = parts .before; number = number; fill = fill }) (afterOne R E s user)) × (all ≡ laid (sentOne R E s user command) old)
+  unfolding partsSent afterOne sentOne
+  sent-one eb eh es ea ep ez en ef =
       let own : octetsIn blocks ≡ scrambled user (s .history) 256 = ap octetsIn eb ∙ scrambled-words user (s .history) 32 in
+      let cut : parts ≡ partsSent R s user = ez ∙ ap (split (R .sync)) (ep ∙ ap (λ (l : List ℕ). multiblockParity (code (R .sync)) (bitAt l)) own) in
       let data-octets : octetsOf (wordBit blocks) 256 ≡ scrambled user (s .history) 256 = ap (λ (l : List ℕ). octetsOf (wordBit l) 256) eb ∙ scrambled-blocks user (s .history) 32 in
-      let one : multiblock (shape (R .gap)) (s .fill) sync (octetsOf (wordBit blocks) 256) ≡ sentOne R E s user command = rw (data-octets, es, own-gap) in
+      let one : multiblock (shape (R .gap)) (s .fill) sync (octetsOf (wordBit blocks) 256) ≡ sentOne R E s user command = rw (data-octets, es, cut, own-gap) in
       let moved : fill ≡ fillAfter (R .gap) (s .fill) = ef ∙ rw (own-gap, le-leb (laneOctets (R .gap)) (length old) room) in (
-        rw (eh, ep, own, en, moved),
+        rw (eh, cut, en, moved),
         ea ∙ ap (λ (l : List ℕ). laidAt l 0 old) one ∙ laid-start (sentOne R E s user command) old (omega (arith, room, one-length R E s user command)),
       )
 

@@ -1,4 +1,4 @@
-// The sender: user octets and commands to lane octets. Document 01, "From octets to lane bits" and "Numbers of refusal"; request 2.
+// The sender: user octets and commands to lane octets. Document 01, "From octets to lane bits" and "Numbers of refusal"; requests 2 and 5.
 ghost use mathlib.Core.Path.{_≡_};
 ghost use Rattle.sender.specs.Lane.{fresh};
 ghost use Rattle.sender.specs.Entry.{done, entry};
@@ -8,8 +8,8 @@ mod run;
 
 use frame::modes;
 
-// What a sender carries from one call to the next: the last 58 bits sent, the parity of the last multiblock, the number of the next
-// multiblock in its extended multiblock, and the register that the next block's fill bits are taken from.
+// What a sender carries from one call to the next: the last 58 bits sent, what the next sync word carries of the parity of the last multiblock,
+// the number of the next multiblock in its extended multiblock, and the register that the next block's fill bits are taken from.
 #[repr(C)]
 pub struct Sender {
     pub history: u64,

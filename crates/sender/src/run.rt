@@ -1,10 +1,10 @@
-// A run over multiblocks: clauses 7.1.4, 7.2.5, 7.3.3, 7.4.1 and 7.5.1; request 2.
+// A run over multiblocks: clauses 7.1.4, 7.2.5, 7.3.3, 7.4.1 and 7.5.1; requests 2 and 5.
 ghost use mathlib.Core.Path.{_≡_};
 ghost use Prim.Native.Nat.{_*_, _≤_, _<_};
 ghost use lib.ListN.{length};
 ghost use Rattle.bits.specs.Choice.{pick};
-ghost use Rattle.bits.specs.Order.{octetsIn, laid};
-ghost use Rattle.parity.specs.Codeword.{parityOf};
+ghost use Rattle.bits.specs.Order.{bitAt, octetsIn, laid};
+ghost use Rattle.parity.specs.Codeword.{multiblockParity};
 ghost use Rattle.frame.specs.Modes.{code};
 ghost use Rattle.frame.specs.Lane.{laneOctets};
 ghost use Rattle.multiblock.specs.Shape.{shape};
@@ -13,14 +13,18 @@ use crate::Sender;
 use frame::modes::Row;
 use frame::modes::Sync;
 use frame::sync;
+use frame::sync::Parts;
 
-// The parity of the octets that 32 blocks hold.
+// The parity of the octets that 32 blocks hold: of no groups it is 0.
 fn parity_of(sync: Sync, blocks: &[u64]) -> u32
-    ensures { λ r. ⌜ r ≡ parityOf (code sync) (octetsIn (now (blocks .entry))) ⌝ }
+    requires { ⌜ length (now blocks) ≡ 32 ⌝ }
+    ensures { λ r. ⌜ r ≡ multiblockParity (code sync) (bitAt (octetsIn (now (blocks .entry)))) ⌝ }
 {
     match sync {
         Sync::Crc12 => parity::Crc12::of_words(blocks),
         Sync::Fec => parity::Fec::of_words(blocks),
+        Sync::Crc3 => parity::Crc3::of_words(blocks),
+        Sync::Command => 0,
     }
 }
 
@@ -31,7 +35,7 @@ fn number_after(last: bool, next: u32) -> u32
     if last { 0 } else { next }
 }
 
-// The multiblock for 256 user octets, over the start of `lane`. Its sync word carries the parity of the one before.
+// The multiblock for 256 user octets, over the start of `lane`. Its sync word carries a part of the parity of the one before, and of its own the rest.
 fn send_one(row: Row, e: u32, state: Sender, user: &[u8], command: u32, lane: &mut [u8]) -> Sender
     requires { ⌜ (shape (row .gap) ≡ row .gap) × (laneOctets (row .gap) ≤ length (now lane)) × (state .number < e) ⌝ }
     ensures { λ r. ⌜ r ≡ afterOne row e state (now (user .entry)) ⌝ }
@@ -40,14 +44,18 @@ fn send_one(row: Row, e: u32, state: Sender, user: &[u8], command: u32, lane: &m
     let scrambled = scrambler::scramble_multiblock(user, state.history);
     let blocks = scrambled.blocks;
     let kind = row.sync;
-    let parity = parity_of(kind, &blocks[..]);
+    let parts = sync::split(kind, parity_of(kind, &blocks[..]));
+    let carried = Parts {
+        before: state.parity,
+        own: parts.own,
+    };
     let next = state.number + 1;
     let last = next == e;
-    let word = sync::word(kind, state.parity, command, last);
+    let word = sync::word(kind, carried, command, last);
     let fill = multiblock::write(row.gap, state.fill, word, &blocks, lane);
     Sender {
         history: scrambled.history,
-        parity,
+        parity: parts.before,
         number: number_after(last, next),
         fill,
     }

@@ -8,10 +8,10 @@ mod words;
 fn main() {
     scrambling::write_table();
     parities::write_crc12_blocks();
+    parities::write_crc3_blocks();
     parities::write_fec_blocks();
     parities::write_fec_multiblocks();
-    words::write_crc12_words();
-    words::write_fec_words();
+    words::write_words();
     words::write_invalid_headers();
     headers::write_values();
     headers::write_words();

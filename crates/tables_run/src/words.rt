@@ -1,47 +1,44 @@
-// Sync words made and read back, Tables 41 and 45, clauses 7.3.4 and 7.3.6: nothing, the mark, each bit of each field alone, everything,
-// and 16 cases a mode from a generator; then commands of which one header was invalid.
+// Sync words made and read back, Tables 41, 43, 45 and 47, clauses 7.3.4 to 7.3.7: nothing, the mark, each bit of each field alone, everything,
+// and 16 cases a layout from a generator; then commands of which one header was invalid. A parity is a multiblock's whole one (request 5).
 use crate::text;
 use frame::modes;
 use frame::modes::Sync;
 use frame::sync;
 ghost use Prim.Native.Nat.{_<_, _≤_};
 
-// The parity and the command read from a sync word, whose headers are all valid.
-fn write_read(kind: Sync, word: u32) {
-    text::write(b"read ");
-    text::write_field(sync::parity(kind, word) as u64, 7);
-    text::write_hex(sync::command(kind, word ^ 0xFFFF_FFFF, word) as u64, 2);
-    text::write(b"\n");
-}
-
-// The sync word of the three fields, and the parity and command read from it.
-fn write_word(mode: u8, parity: u32, command: u32, mark: bool) {
-    text::write(b"sync word ");
-    text::write_field(mode as u64, 1);
-    text::write_field(parity as u64, 7);
-    text::write_field(command as u64, 2);
-    text::write_field(mark as u64, 1);
-    let row = modes::row_of(mode);
-    let kind = row.sync;
-    let word = sync::word(kind, parity, command, mark);
-    text::write(b"-> ");
-    text::write_field(word as u64, 8);
-    write_read(kind, word);
-}
-
-// Each bit of a parity alone.
-fn write_parity_bits(mode: u8, width: u32)
-    requires { ⌜ width ≤ 26 ⌝ }
-{
-    for k in 0..width {
-        write_word(mode, 1 << k, 0, false);
+// A command of 7 bits in two digits, one of 19 in five.
+fn write_command(kind: Sync, command: u32) {
+    match kind {
+        Sync::Command => text::write_hex(command as u64, 5),
+        _ => text::write_hex(command as u64, 2),
     }
 }
 
-// Each bit of a command alone.
-fn write_command_bits() {
-    for k in 0..7u32 {
-        write_word(0, 0, 1 << k, false);
+// The sync word of the three fields, and the parity and command read from it, whose headers are all valid.
+fn write_word(mode: u8, parity: u32, command: u32, mark: bool) {
+    let row = modes::row_of(mode);
+    let kind = row.sync;
+    text::write(b"sync word ");
+    text::write_field(mode as u64, 1);
+    text::write_field(parity as u64, 7);
+    write_command(kind, command);
+    text::write(b" ");
+    text::write_field(mark as u64, 1);
+    let word = sync::word(kind, sync::split(kind, parity), command, mark);
+    text::write(b"-> ");
+    text::write_field(word as u64, 8);
+    text::write(b"read ");
+    text::write_field(sync::whole(kind, sync::parities(kind, word)) as u64, 7);
+    write_command(kind, sync::command(kind, word ^ 0xFFFF_FFFF, word));
+    text::write(b"\n");
+}
+
+// Each of so many bits alone: of a parity (1, 0) or of a command (0, 1).
+fn write_bits(mode: u8, width: u32, parity: u32, command: u32)
+    requires { ⌜ width ≤ 26 ⌝ }
+{
+    for k in 0..width {
+        write_word(mode, parity << k, command << k, false);
     }
 }
 
@@ -55,12 +52,17 @@ fn parity_from(kind: Sync, x: u64) -> u32 {
     match kind {
         Sync::Crc12 => (x / 0x8_0000 % 0x1000) as u32,
         Sync::Fec => (x / 0x20 % 0x400_0000) as u32,
+        Sync::Crc3 => (x / 0x8_0000 % 0x1000) as u32,
+        Sync::Command => 0,
     }
 }
 
-// A command from a number of the generator: x / 2^24.
-fn command_from(x: u64) -> u32 {
-    (x / 0x100_0000 % 0x80) as u32
+// A command from a number of the generator: x / 2^24 in 7 bits, x / 2^12 in 19.
+fn command_from(kind: Sync, x: u64) -> u32 {
+    match kind {
+        Sync::Command => (x / 0x1000 % 0x8_0000) as u32,
+        _ => (x / 0x100_0000 % 0x80) as u32,
+    }
 }
 
 // A mark from a number of the generator: x / 2^30.
@@ -78,43 +80,54 @@ fn write_generated(mode: u8) {
         let second = next(first);
         x = next(second);
         let parity = parity_from(kind, first);
-        write_word(mode, parity, command_from(second), mark_from(x));
+        let command = command_from(kind, second);
+        write_word(mode, parity, command, mark_from(x));
     }
 }
 
-pub(crate) fn write_crc12_words() {
-    write_word(0, 0, 0, false);
-    write_word(0, 0, 0, true);
-    write_parity_bits(0, 12);
-    write_command_bits();
-    write_word(0, 0xFFF, 0x7F, true);
-    write_generated(0);
+// The words of a mode, by the bits of its parity and of its command.
+fn write_mode(mode: u8, parities: u32, commands: u32, parity: u32, command: u32)
+    requires { ⌜ (parities ≤ 26) × (commands ≤ 26) ⌝ }
+{
+    write_word(mode, 0, 0, false);
+    write_word(mode, 0, 0, true);
+    write_bits(mode, parities, 1, 0);
+    write_bits(mode, commands, 0, 1);
+    write_word(mode, parity, command, true);
+    write_generated(mode);
 }
 
-// An FEC word has no room for a command: whatever is given, 0 is read.
-pub(crate) fn write_fec_words() {
-    write_word(1, 0, 0, false);
-    write_word(1, 0, 0, true);
-    write_parity_bits(1, 26);
-    write_word(1, 0x3FFFFFF, 0x7F, true);
-    write_generated(1);
+// An FEC word has no room for a command, nor one of the stand-alone command channel for a parity: whatever is given, 0 is read.
+pub(crate) fn write_words() {
+    write_mode(0, 12, 7, 0xFFF, 0x7F);
+    write_mode(1, 26, 0, 0x3FFFFFF, 0x7F);
+    write_mode(4, 12, 7, 0xFFF, 0x7F);
+    write_mode(5, 0, 19, 0, 0x7FFFF);
 }
 
-// The command of a CRC-12 word of zeros in which the header at one position is 00; position 0 is the highest bit.
-fn write_invalid_header(position: u32)
+// The command of a word of zeros in which the header at one position is 00; position 0 is the highest bit.
+fn write_invalid_header(mode: u8, position: u32)
     requires { ⌜ position < 32 ⌝ }
 {
     text::write(b"command invalid ");
+    text::write_field(mode as u64, 1);
     text::write_decimal(position as u64);
     text::write(b" -> ");
+    let row = modes::row_of(mode);
+    let kind = row.sync;
     let first = 0xFFFF_FFFF ^ (0x8000_0000u32 >> position);
-    let command = sync::command(Sync::Crc12, first, 0);
-    text::write_hex(command as u64, 2);
+    write_command(kind, sync::command(kind, first, 0));
     text::write(b"\n");
 }
 
-pub(crate) fn write_invalid_headers() {
+fn write_invalid_mode(mode: u8) {
     for position in 0..32u32 {
-        write_invalid_header(position);
+        write_invalid_header(mode, position);
     }
+}
+
+pub(crate) fn write_invalid_headers() {
+    write_invalid_mode(0);
+    write_invalid_mode(4);
+    write_invalid_mode(5);
 }

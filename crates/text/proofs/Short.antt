@@ -62,4 +62,4 @@ pub listing-short : (mode : ℕ) → length (nameOf (row mode)) + 12 + 15 * (row
 unfolding nameOf shapeName decimal digitsOf
 listing-short =
     rw most-is
-    (of-each (λ (R : Row). length (nameOf R) + 12 + 15 * (R .most - 1) ≤ 18 + 15 * (240 - 1)) (lit≤ tt, (lit≤ tt, (rw width-80 (lit≤ tt), (rw width-80 (lit≤ tt), tt)))) (lit≤ tt))
+    (of-each (λ (R : Row). length (nameOf R) + 12 + 15 * (R .most - 1) ≤ 18 + 15 * (240 - 1)) (lit≤ tt, (lit≤ tt, (rw width-80 (lit≤ tt), (rw width-80 (lit≤ tt), (lit≤ tt, (lit≤ tt, tt)))))) (lit≤ tt))

@@ -1,10 +1,10 @@
 -- Lists written one after the other: what was written, what is written next, and the room for it. Assumes nothing.
 use mathlib.Core.Path.{_≡_, refl, sym, ap, ap₂, _∙_, subst}
-use mathlib.Core.List.{List, [], _++_}
-use Prim.Native.Nat.{ℕ, _+_, _≤_}
+use mathlib.Core.List.{List, [], _∷_, _++_}
+use Prim.Native.Nat.{ℕ, suc, _+_, _≤_, _<_}
 use native.Mathlib.Omega.{arith}
-use lib.ListN.{length, length-append}
-use lib.Seq.{sets}
+use lib.ListN.{length, getD, take, length-append}
+use lib.Seq.{sets, take-suc}
 use Rattle.bits.specs.Order.{laid, laidAt}
 use Rattle.bits.proofs.Laid.{laid-start}
 use Rattle.bits.proofs.Writing.{stored, length-laidAt, laidAt-none, laidAt-then}
@@ -37,6 +37,13 @@ wrote-then {xs} {ys} {old} {mid} {text} {at} {next} {end} a b =
 
 pub wrote-is : {xs ys old text : List ℕ} {at next : ℕ} → xs ≡ ys → Wrote xs at old next text → Wrote ys at old next text
 wrote-is {old = old} {text = text} {at = at} {next = next} e w = subst (λ (x : List ℕ). Wrote x at old next text) e w
+
+-- the octets of a list one by one, from the start
+pub wrote-more : {old mid text : List ℕ} {at next : ℕ} (l : List ℕ) → at < length l → Wrote (take at l) 0 old at mid → Wrote (getD l at 0 ∷ []) at mid next text
+    → Wrote (take next l) 0 old next text
+wrote-more {old} {text = text} {at = at} {next = next} l h a b =
+    let ends : next ≡ suc at = omega (arith, b .place) in
+    subst (λ (k : ℕ). Wrote (take k l) 0 old next text) (sym ends) (wrote-is (sym (take-suc l at 0 h)) (wrote-then a b))
 
 -- ---- room for two lists is room for the first, and then for the second
 

@@ -5,7 +5,7 @@ use lib.Dec.{ltb, eqb}
 use lib.ListN.{length, getD}
 use Rattle.bits.specs.Choice.{pick}
 use Rattle.frame.specs.declared.modes.Sync.{Sync}
-use Rattle.frame.specs.declared.modes.Sync.the-variants.{Crc12, Fec}
+use Rattle.frame.specs.declared.modes.Sync.the-variants.{Crc12, Fec, Crc3, Command}
 use Rattle.frame.specs.declared.modes.Row.{Row}
 use Rattle.frame.specs.Lane.{blockWidth}
 
@@ -25,10 +25,12 @@ spaced n = decimal n ++ (32 ∷ [])
 abbrev pub ended : ℕ → List ℕ
 ended n = decimal n ++ (10 ∷ [])
 
--- "crc12" or "fec"
+-- "crc12", "fec", "crc3" or "cmd" (request 5)
 abbrev pub syncName : Sync → List ℕ
 syncName Crc12 = 99 ∷ 114 ∷ 99 ∷ 49 ∷ 50 ∷ []
 syncName Fec = 102 ∷ 101 ∷ 99 ∷ []
+syncName Crc3 = 99 ∷ 114 ∷ 99 ∷ 51 ∷ []
+syncName Command = 99 ∷ 109 ∷ 100 ∷ []
 
 -- where blocks have gaps, "-" and the bits of a block (request 2)
 unfoldable pub shapeName : ℕ → List ℕ

@@ -2,8 +2,7 @@
 ghost use mathlib.Core.Path.{_≡_};
 ghost use mathlib.Core.List.{[], _∷_};
 ghost use Prim.Native.Nat.{_+_, _≤_, _<_};
-ghost use lib.ListN.{length};
-ghost use Rattle.frame.specs.declared.modes.Sync.the-variants.{Crc12, Fec};
+ghost use lib.ListN.{length, take};
 ghost use Rattle.text.specs.Text.{decimal, syncName, shapeName, nameOf, headLine, releaseLine};
 ghost use Rattle.text.specs.inner.Wrote.{Wrote, field};
 use frame::modes;
@@ -55,26 +54,33 @@ fn put_field(text: &mut [u8], at: usize, n: u32, end: u8) -> usize
     put_octet(text, next, end)
 }
 
-fn put_fec(text: &mut [u8]) -> usize
-    requires { ⌜ 3 ≤ length (now text) ⌝ }
-    ensures { λ r. ⌜ Wrote (syncName Fec) 0 (now (text .entry)) r (now (text .exit)) ⌝ }
-{
-    text[0] = b'f';
-    text[1] = b'e';
-    text[2] = b'c';
-    3
+// A name of at most five letters: the first `count` of these octets.
+struct Letters {
+    octets: [u8; 5],
+    count: usize,
 }
 
-fn put_crc12(text: &mut [u8]) -> usize
-    requires { ⌜ 5 ≤ length (now text) ⌝ }
-    ensures { λ r. ⌜ Wrote (syncName Crc12) 0 (now (text .entry)) r (now (text .exit)) ⌝ }
+fn letters_of(sync: Sync) -> Letters
+    ensures { λ r. ⌜ (r .count ≡ length (syncName sync)) × (r .count ≤ 5) × (length (r .octets) ≡ 5) × (take (r .count) (r .octets) ≡ syncName sync) ⌝ }
 {
-    text[0] = b'c';
-    text[1] = b'r';
-    text[2] = b'c';
-    text[3] = b'1';
-    text[4] = b'2';
-    5
+    match sync {
+        Sync::Crc12 => Letters {
+            octets: [b'c', b'r', b'c', b'1', b'2'],
+            count: 5,
+        },
+        Sync::Fec => Letters {
+            octets: [b'f', b'e', b'c', b' ', b' '],
+            count: 3,
+        },
+        Sync::Crc3 => Letters {
+            octets: [b'c', b'r', b'c', b'3', b' '],
+            count: 4,
+        },
+        Sync::Command => Letters {
+            octets: [b'c', b'm', b'd', b' ', b' '],
+            count: 3,
+        },
+    }
 }
 
 // The name of the sync word.
@@ -83,20 +89,14 @@ fn put_sync(text: &mut [u8], row: Row) -> usize
     ensures { λ r. ⌜ Wrote (syncName (row .sync)) 0 (now (text .entry)) r (now (text .exit)) ⌝ }
 {
     let sync = row.sync;
-    match sync {
-        Sync::Crc12 => put_crc12(text),
-        Sync::Fec => put_fec(text),
+    let letters = letters_of(sync);
+    let count = letters.count;
+    let octets = letters.octets;
+    let mut at: usize = 0;
+    while at < count {
+        at = put_octet(text, at, octets[at]);
     }
-}
-
-fn sync_width(row: Row) -> usize
-    ensures { λ r. ⌜ (r ≡ length (syncName (row .sync))) × (r ≤ 5) ⌝ }
-{
-    let sync = row.sync;
-    match sync {
-        Sync::Crc12 => 5,
-        Sync::Fec => 3,
-    }
+    at
 }
 
 // Where blocks have gaps, the bits of a block.
@@ -135,7 +135,9 @@ fn put_name(text: &mut [u8], row: Row) -> usize
 fn name_width(row: Row) -> usize
     ensures { λ r. ⌜ (r ≡ length (nameOf row)) × (r ≤ 27) ⌝ }
 {
-    sync_width(row) + shape_width(row) + 1
+    let sync = row.sync;
+    let letters = letters_of(sync);
+    letters.count + shape_width(row) + 1
 }
 
 // Mode name, E, received, released.

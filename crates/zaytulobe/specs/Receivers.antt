@@ -1,4 +1,5 @@
--- A receiver's state as numbers: which numbers fit, the state that they stand for, and back (document 01, "What the receiver releases").
+-- A receiver's state as numbers: which numbers fit, the state that they stand for, and back (document 01, "What the receiver releases";
+-- request 5).
 -- Assumes nothing.
 use mathlib.Core.Bool.{Bool, _&&_}
 use Rattle.bits.specs.Choice.{bitOf}
@@ -19,6 +20,7 @@ stateOf x = record {
   trusted = boolOf (x .trusted);
   command = x .command;
   invalid = x .invalid;
+  own = x .own;
 }
 
 unfoldable pub asNumbers : Receiver → ReceiverNumbers
@@ -29,4 +31,5 @@ asNumbers s = record {
   trusted = bitOf (s .trusted);
   octets = s .octets;
   invalid = s .invalid;
+  own = s .own;
 }

@@ -13,6 +13,7 @@ pub struct ReceiverNumbers {
     pub trusted: u8,
     pub octets: [u8; 256],
     pub invalid: u8,
+    pub own: u16,
 }
 
 // Whether both bools are 0 or 1.
@@ -34,6 +35,7 @@ pub(crate) fn state_of(given: ReceiverNumbers) -> Receiver
         trusted: given.trusted == 1,
         command: given.command,
         invalid: given.invalid,
+        own: given.own,
     }
 }
 
@@ -49,5 +51,6 @@ pub(crate) fn as_numbers(state: Receiver) -> ReceiverNumbers
         trusted: state.trusted as u8,
         octets,
         invalid: state.invalid,
+        own: state.own,
     }
 }

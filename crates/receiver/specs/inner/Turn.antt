@@ -9,7 +9,7 @@ use Rattle.bits.specs.Choice.{pick}
 use Rattle.bits.specs.Order.{bitAt, laid}
 use Rattle.frame.specs.declared.modes.Row.{Row}
 use Rattle.frame.specs.Lane.{laneOctets, dataOctets, headerAt, syncBit, invalidHeaders}
-use Rattle.frame.specs.SyncWord.{readParity, flaggedCommand}
+use Rattle.frame.specs.SyncWord.{readParts, flaggedCommand}
 use Rattle.receiver.specs.declared.Receiver.{Receiver}
 use Rattle.receiver.specs.declared.run.Heard.{Heard}
 use Rattle.receiver.specs.declared.run.Begun.{Begun}
@@ -19,7 +19,7 @@ use Rattle.receiver.specs.Release.{Release, waitingAt}
 unfoldable pub heardAt : Row → (ℕ → ℕ) → ℕ → Heard
 heardAt R lane m = record {
   octets = dataOctets (R .gap) lane m;
-  parity = readParity (R .sync) (syncBit (R .gap) lane m);
+  parts = readParts (R .sync) (syncBit (R .gap) lane m);
   command = flaggedCommand (R .sync) (headerAt (R .gap) lane m);
   invalid = invalidHeaders (R .gap) lane m;
 }

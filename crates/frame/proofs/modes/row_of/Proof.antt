@@ -7,13 +7,15 @@ use Rattle.frame.proofs.modes.row_of.Statement.{statement}
 use Rattle.frame.proofs.modes.row_of.Tie as tie
 
 -- a number past the rows
-none : (mode : ℕ) → (mode ≡ 0 → ⊥) → (mode ≡ 1 → ⊥) → (mode ≡ 2 → ⊥) → (mode ≡ 3 → ⊥) → row mode ≡ noRow
+none : (mode : ℕ) → (mode ≡ 0 → ⊥) → (mode ≡ 1 → ⊥) → (mode ≡ 2 → ⊥) → (mode ≡ 3 → ⊥) → (mode ≡ 4 → ⊥) → (mode ≡ 5 → ⊥) → row mode ≡ noRow
 unfolding row
-none zero a b c d = absurd (a refl)
-none (suc zero) a b c d = absurd (b refl)
-none (suc (suc zero)) a b c d = absurd (c refl)
-none (suc (suc (suc zero))) a b c d = absurd (d refl)
-none (suc (suc (suc (suc mode)))) a b c d = refl
+none zero a b c d e f = absurd (a refl)
+none (suc zero) a b c d e f = absurd (b refl)
+none (suc (suc zero)) a b c d e f = absurd (c refl)
+none (suc (suc (suc zero))) a b c d e f = absurd (d refl)
+none (suc (suc (suc (suc zero)))) a b c d e f = absurd (e refl)
+none (suc (suc (suc (suc (suc zero))))) a b c d e f = absurd (f refl)
+none (suc (suc (suc (suc (suc (suc mode)))))) a b c d e f = refl
 
 returns : tie.Need-returns
 unfolding row
@@ -32,9 +34,17 @@ unfolding row
 returns-4 c = sym (ap row (c .match .keys4))
 
 returns-5 : tie.Need-returns-5
-returns-5 c =
+unfolding row
+returns-5 c = sym (ap row (c .match .keys5))
+
+returns-6 : tie.Need-returns-6
+unfolding row
+returns-6 c = sym (ap row (c .match .keys6))
+
+returns-7 : tie.Need-returns-7
+returns-7 c =
     let others = c .match .rest in
-    sym (none (c .before .args .mode) (others .0 .0 .0 .1) (others .0 .0 .1) (others .0 .1) (others .1))
+    sym (none (c .before .args .mode) (others .0 .0 .0 .0 .0 .1) (others .0 .0 .0 .0 .1) (others .0 .0 .0 .1) (others .0 .0 .1) (others .0 .1) (others .1))
 
 pub row-of-spec : {M : Type 1} → statement M
-row-of-spec = tie.close (tie.spec returns returns-2 returns-3 returns-4 returns-5)
+row-of-spec = tie.close (tie.spec returns returns-2 returns-3 returns-4 returns-5 returns-6 returns-7)

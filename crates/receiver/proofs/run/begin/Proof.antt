@@ -32,9 +32,9 @@ hear-requires c κs =
 returns-3 : tie.Need-returns-3
 unfolding begunBy heardAt waitingAt
 returns-3 c =
-    let a = c .before .before .before .before .before .args in
-    let long = subst (λ (x : ℕ). x ≤ length (now (a .lane))) (c .before .before .before .before .before .pre .1) (c .before .before .if2 .left) in
-    (simp (c .before .before .before .if1 .left, le-ltb _ _ long, c .before .hear .ensures), (omega arith, omega (arith, mul-one (a .size), c .before .before .if2 .left)))
+    let a = c .before .before .before .before .before .before .args in
+    let long = subst (λ (x : ℕ). x ≤ length (now (a .lane))) (c .before .before .before .before .before .before .pre .1) (c .before .before .before .if2 .left) in
+    (simp (c .before .before .before .before .if1 .left, le-ltb _ _ long, c .before .before .hear .ensures), (omega arith, omega (arith, mul-one (a .size), c .before .before .before .if2 .left)))
 
 pub begin-spec : {M : Type 1} → statement M
 begin-spec = tie.close (tie.spec returns returns-2 hear-requires returns-3)

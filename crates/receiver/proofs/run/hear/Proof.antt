@@ -12,8 +12,8 @@ read-requires c κs = search needs
 carried-requires : tie.Need-carried-requires
 carried-requires c κs = search needs
 
-parity-requires : tie.Need-parity-requires
-parity-requires c κs = search needs
+parities-requires : tie.Need-parities-requires
+parities-requires c κs = search needs
 
 command-requires : tie.Need-command-requires
 command-requires c κs = search needs
@@ -24,14 +24,14 @@ invalid-count-requires c κs = search needs
 returns : tie.Need-returns
 returns c =
     let command = c .before in
-    let parity = command .before in
-    let bits = parity .before in
+    let parts = command .before in
+    let bits = parts .before in
     let r = bits .before .before .read in
     let s = bits .before .before .before .before in
     let a = s .args in
-    heard-is (a .row) (now (a .lane)) (r .result .first) (r .result .second) (bits .carried .result) (parity .parity .result) (command .command .result)
+    heard-is (a .row) (now (a .lane)) (r .result .first) (r .result .second) (bits .carried .result) (parts .parities .result) (command .command .result)
     (c .invalid-count .result) (r .result .octets) (s .pre .0) (s .pre .1) (r .ensures .1 .0) (r .ensures .1 .1) (r .ensures .0) (bits .carried .ensures)
-    (parity .parity .ensures) (command .command .ensures) (c .invalid-count .ensures)
+    (parts .parities .ensures) (command .command .ensures) (c .invalid-count .ensures)
 
 pub hear-spec : {M : Type 1} → statement M
 hear-spec =
@@ -39,7 +39,7 @@ hear-spec =
     (tie.spec
     read-requires
     carried-requires
-    parity-requires
+    parities-requires
     command-requires
     invalid-count-requires
     returns)

@@ -11,6 +11,9 @@ use Rattle.receiver.proofs.run.release.Tie as tie
 hear-requires : tie.Need-hear-requires
 hear-requires c κs = let pre = c .before .before .before .before .before .before .before .pre in (pre .0 .0, pre .0 .1)
 
+whole-requires : tie.Need-whole-requires
+whole-requires c κs = search needs
+
 release-requires : tie.Need-release-requires
 release-requires c κs = search needs
 
@@ -18,19 +21,19 @@ slice-write-statuses : tie.Need-slice-write-statuses
 slice-write-statuses c = search needs
 
 mul-commands : tie.Need-mul-commands
-mul-commands c = omega (arith, most-is, c .before .before .before .before .before .before .before .before .before .before .before .before .before .before .pre .1 .0)
+mul-commands c = omega (arith, most-is, c .before .before .before .before .before .before .before .before .before .before .before .before .before .before .before .before .pre .1 .0)
 
 slice-write-commands : tie.Need-slice-write-commands
 slice-write-commands c = search needs
 
 mul-places : tie.Need-mul-places
-mul-places c = omega (arith, most-is, c .before .before .before .before .before .before .before .before .before .before .before .before .before .before .pre .1 .0)
+mul-places c = omega (arith, most-is, c .before .before .before .before .before .before .before .before .before .before .before .before .before .before .before .before .pre .1 .0)
 
 slice-write-places : tie.Need-slice-write-places
 slice-write-places c = search needs
 
 mul-patterns : tie.Need-mul-patterns
-mul-patterns c = omega (arith, most-is, c .before .before .before .before .before .before .before .before .before .before .before .before .before .before .pre .1 .0)
+mul-patterns c = omega (arith, most-is, c .before .before .before .before .before .before .before .before .before .before .before .before .before .before .before .before .pre .1 .0)
 
 slice-write-patterns : tie.Need-slice-write-patterns
 slice-write-patterns c = search needs
@@ -59,20 +62,22 @@ same-length-6 c = search needs
 returns : tie.Need-returns
 returns c =
     let written = c .before .before .before .before in
-    let h = written .before .before .before in
+    let w = written .before .before in
+    let h = w .before .before .before in
     let s = h .before .before .before .before .before .before .before .before in
     let a = s .args in
     let pre = s .pre in
     let r = written .release in
     let e = r .ensures in
-    turned (a .row) (a .state) (now (a .lane)) (a .k) (now (a .octets)) (now (a .statuses)) (now (a .commands)) (now (a .places)) (now (a .patterns)) (now (a .invalid)) _ (h .hear .result) (r .result)
-    (pre .0 .2) (pre .0 .3) (h .hear .ensures) (e .0) (e .1 .0) (e .1 .1 .0) (e .1 .1 .1 .0) (e .1 .1 .1 .1)
+    turned (a .row) (a .state) (now (a .lane)) (a .k) (now (a .octets)) (now (a .statuses)) (now (a .commands)) (now (a .places)) (now (a .patterns)) (now (a .invalid)) _ (h .hear .result) (w .whole .result) (r .result)
+    (pre .0 .2) (pre .0 .3) (h .hear .ensures) (w .whole .ensures) (e .0) (e .1 .0) (e .1 .1 .0) (e .1 .1 .1 .0) (e .1 .1 .1 .1)
 
 pub release-spec : {M : Type 1} → statement M
 release-spec =
     tie.close
     (tie.spec
     hear-requires
+    whole-requires
     release-requires
     slice-write-statuses
     mul-commands

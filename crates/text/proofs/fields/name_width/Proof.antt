@@ -6,8 +6,8 @@ use Rattle.text.proofs.Names.{name-length}
 use Rattle.text.proofs.fields.name_width.Statement.{statement}
 use Rattle.text.proofs.fields.name_width.Tie as tie
 
-sync-width-requires : tie.Need-sync-width-requires
-sync-width-requires c κs = search needs
+letters-of-requires : tie.Need-letters-of-requires
+letters-of-requires c κs = search needs
 
 shape-width-requires : tie.Need-shape-width-requires
 shape-width-requires c κs = search needs
@@ -20,11 +20,11 @@ add-result-2 c = search needs
 
 returns : tie.Need-returns
 returns c =
-    let total = name-length (c .before .before .args .row) in
-    let x = c .before .sync-width .ensures in
-    let y = c .shape-width .ensures in
+    let total = name-length (c .before .before .before .args .row) in
+    let x = c .before .before .letters-of .ensures in
+    let y = c .before .shape-width .ensures in
     (omega arith, omega arith)
 
 pub name-width-spec : {M : Type 1} → statement M
 name-width-spec =
-    tie.close (tie.spec sync-width-requires shape-width-requires add-result add-result-2 returns)
+    tie.close (tie.spec letters-of-requires shape-width-requires add-result add-result-2 returns)
