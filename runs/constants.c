@@ -1,6 +1,6 @@
 /* The constants of include/zaytulobe.h are the library's: beside each stands what the functions make of it, and of the number next
    to it where it is an edge. Document 01, "Numbers of refusal", "What the receiver releases" and "Capture and listing"; document 02,
-   request 2, for modes 2 and 3. constants.txt has the lines expected. */
+   request 2, for modes 2 and 3, and request 5 for modes 4 and 5. constants.txt has the lines expected. */
 #include "lane.h"
 
 static struct releases out;
@@ -42,7 +42,7 @@ static void print_listed(u8 mode) {
 }
 
 static void run_modes(void) {
-    u8 next = ZAYTULOBE_FEC_80 + 1;
+    u8 next = ZAYTULOBE_COMMAND + 1;
     NAMED(ZAYTULOBE_CRC12);
     print_listed(ZAYTULOBE_CRC12);
     NAMED(ZAYTULOBE_FEC);
@@ -51,6 +51,10 @@ static void run_modes(void) {
     print_listed(ZAYTULOBE_CRC12_80);
     NAMED(ZAYTULOBE_FEC_80);
     print_listed(ZAYTULOBE_FEC_80);
+    NAMED(ZAYTULOBE_CRC3);
+    print_listed(ZAYTULOBE_CRC3);
+    NAMED(ZAYTULOBE_COMMAND);
+    print_listed(ZAYTULOBE_COMMAND);
     printf("  the next mode: ");
     print_answer("sender", next, sent(next, 1, 0, 0, 0));
     print_answer(", receiver", next, received(next, 0));
@@ -129,14 +133,29 @@ static void run_commands(u8 mode) {
     printf("\n");
 }
 
-/* Block 16 carries the highest bit of the command of CRC-12, here 1; its header becomes 11. */
-static void run_flag(void) {
-    make_lane(CRC12, 1, 3);
-    flip_bit(header_place(CRC12, 2, 16));
-    u32 command = receive(CRC12, zaytulobe_fresh_receiver(), 0, 3, &out, 0).state.command;
-    NAMED(ZAYTULOBE_COMMAND_FLAG);
-    printf("command %u sent, %u received where the header of its highest bit is invalid, and so read as 0\n",
+/* The block that carries the highest 1 of the command gets header 11. */
+static void run_flag(u8 mode, size block) {
+    make_lane(mode, 1, 3);
+    flip_bit(header_place(mode, 2, block));
+    u32 command = receive(mode, zaytulobe_fresh_receiver(), 0, 3, &out, 0).state.command;
+    NAMED(ZAYTULOBE_COMMAND_FLAG(mode));
+    printf("%s, command %u sent, %u received where the header of its highest 1 is invalid, and so read as 0\n", name_of(mode),
         sent_commands[2], command);
+}
+
+/* With one waiting. */
+static int received_from(u8 mode, u16 own) {
+    struct zaytulobe_receiver state = {.waiting = 1, .own = own};
+    return receive(mode, state, 0, 1, &out, 0).refusal;
+}
+
+static void run_most_own(u8 mode) {
+    u16 most = ZAYTULOBE_MOST_OWN(mode);
+    NAMED(ZAYTULOBE_MOST_OWN(mode));
+    printf("%s, ", name_of(mode));
+    print_answer("receiver", most, received_from(mode, most));
+    print_answer(",", most + 1, received_from(mode, (u16)(most + 1)));
+    printf("\n");
 }
 
 /* An invalid header moves a hunting header lock on by one bit, from the last offset to the first. */
@@ -218,7 +237,7 @@ static void run_refusals(void) {
     NAMED(ZAYTULOBE_ACCEPTED);
     printf("%d for a multiblock\n", sent_multiblocks(FEC, 1));
     NAMED(ZAYTULOBE_REFUSED_MODE);
-    printf("%d for mode 4\n", sent(4, 1, 0, 0, 0));
+    printf("%d for mode 6\n", sent(6, 1, 0, 0, 0));
     NAMED(ZAYTULOBE_REFUSED_E);
     printf("%d for E 0\n", sent(FEC, 0, 0, 0, 0));
     NAMED(ZAYTULOBE_REFUSED_STATE);
@@ -286,9 +305,13 @@ int main(void) {
         run_most_multiblocks(mode);
         run_commands(mode);
         run_most_fill(mode);
+        run_most_own(mode);
         run_block_bits(mode);
     }
-    run_flag();
+    run_flag(CRC12, 16);
+    run_flag(CRC12_80, 16);
+    run_flag(CRC3, 4);
+    run_flag(COMMAND, 1);
     run_blocks();
     run_captures();
     run_text(FEC);

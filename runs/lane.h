@@ -1,5 +1,5 @@
 /* What the runs share: lanes that the sender makes, flips of their bits, and what the receiver makes of them.
-   Where a bit stands: document 01, "From octets to lane bits" and "Parity". */
+   Where a bit stands: document 01, "From octets to lane bits" and "Parity"; of CRC-3 Tables 43 and 44 of the standard. */
 #ifndef LANE_H
 #define LANE_H
 
@@ -13,6 +13,9 @@ _Noreturn void exit(int status);
 /* In multiblocks: the longest lane of a run, and more than a call takes. */
 enum { LONGEST_LANE = 1320, LONGEST_CALL = MOST_MULTIBLOCKS + 2 };
 enum { UNTOUCHED = 0xEE };
+
+/* Of CRC-3: the groups of a multiblock, and of a group its blocks and the bits of its data. */
+enum { GROUPS = 4, GROUP_BLOCKS = BLOCKS / GROUPS, GROUP_BITS = DATA_BITS / GROUPS };
 
 static u8 user[USER_OCTETS * LONGEST_LANE], lane[MOST_LANE_OCTETS * LONGEST_LANE];
 static u32 sent_commands[LONGEST_LANE];
@@ -28,7 +31,7 @@ struct releases {
 };
 
 static inline const char *name_of(u8 mode) {
-    static const char *const names[MODES] = {"CRC-12", "FEC", "CRC-12-80", "FEC-80"};
+    static const char *const names[MODES] = {"CRC-12", "FEC", "CRC-12-80", "FEC-80", "CRC-3", "CMD"};
     return names[mode];
 }
 
@@ -37,12 +40,13 @@ static inline void stop(const char *why) {
     exit(1);
 }
 
-/* The lane that a fresh sender makes of the first user octets, so many multiblocks, in the longest calls; its end state. */
+/* The lane that a fresh sender makes of the first user octets, so many multiblocks, in the longest calls; its end state. Commands of
+   7 bits go up by 37, those of 19 bits by a number that ends in the same 7. */
 static inline struct zaytulobe_sender send_user(u8 mode, u32 e, size multiblocks) {
     struct zaytulobe_sender state = zaytulobe_fresh_sender();
     size most = most_multiblocks(mode), octets = lane_octets(mode);
     for (size k = 0; k < multiblocks; k++)
-        sent_commands[k] = (u32)(37 * k % (size)(ZAYTULOBE_MOST_COMMAND(mode) + 1));
+        sent_commands[k] = (u32)(0x55aa5 * k % (size)(ZAYTULOBE_MOST_COMMAND(mode) + 1));
     for (size start = 0; start < multiblocks; start += most) {
         size left = multiblocks - start, count = left < most ? left : most;
         struct zaytulobe_sent sent = zaytulobe_send(
@@ -84,11 +88,14 @@ static inline void put_header(u8 mode, size multiblock, size block, u8 bits) {
 }
 
 /* Where a codeword position stands on the lane: a data bit behind its block's header; a parity bit is carried by both bits of
-   a header of the next multiblock, and this is the first of them. */
+   a header of the next multiblock, and this is the first of them. Of CRC-3 the parities of the four groups follow the data in their
+   order, B C D A, each in the headers of the three blocks after its group: those of A are in the next multiblock. */
 static inline size place_of(u8 mode, size multiblock, size position) {
     size rank = position - DATA_BITS;
     if (position < DATA_BITS)
         return multiblock_bits(mode) * multiblock + data_place(mode, position);
+    if (mode == CRC3)
+        return header_place(mode, multiblock, GROUP_BLOCKS * (rank / 3 + 1) + rank % 3);
     return header_place(mode, multiblock + 1, has_fec(mode) ? rank + (rank >= 22) : rank + rank / 3);
 }
 

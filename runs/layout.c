@@ -15,7 +15,7 @@ static void print_field(const char *field, u64 highest, int of_highest, int of_n
         printf("refused %d, %s\n", of_next, given_back ? "the state given" : "ANOTHER STATE");
 }
 
-/* In mode 2, where each field has more than one value. */
+/* In mode 2, where each field of a sender has more than one value. */
 static struct zaytulobe_sent send_one(struct zaytulobe_sender state) {
     static const u32 no_command[1];
     return zaytulobe_send(CRC12_80, 4, state, user, USER_OCTETS, no_command, 1, lane, lane_octets(CRC12_80));
@@ -49,14 +49,22 @@ static u64 last_58(u8 mode, size multiblock) {
     return history;
 }
 
+/* The parity of the multiblock before, from the sync word at the lane's start: with CRC-12 three of every four of the first 16 headers,
+   with CRC-3 the first three, and none in mode 5. */
+static u32 parity_carried(u8 mode) {
+    u32 parity = 0;
+    size blocks = mode == CRC3 ? 3 : mode == COMMAND ? 0 : 16;
+    for (size block = 0; block < blocks; block++)
+        parity = block % 4 == 3 ? parity : 2 * parity + lane_bit(header_place(mode, 0, block) + 1);
+    return parity;
+}
+
 /* Each number of what comes back from sending three multiblocks is worked from the lane, and of the register from its rule. */
 static void run_sent(u8 mode) {
     struct zaytulobe_sender after = make_lane(mode, 4, 3);
     u64 history = last_58(mode, 2);
     zaytulobe_send(mode, 4, after, user, USER_OCTETS, sent_commands, 1, lane, sizeof lane);
-    u32 parity = 0, fill = 0;
-    for (size block = 0; block < 16; block++)
-        parity = block % 4 == 3 ? parity : 2 * parity + lane_bit(header_place(mode, 0, block) + 1);
+    u32 parity = parity_carried(mode), fill = 0;
     for (size block = 0; block < 3 * BLOCKS && gap(mode) != 0; block++)
         fill = next_fill(fill);
     printf("sent.state after 3 multiblocks, %s: ", name_of(mode));
@@ -72,31 +80,34 @@ static void run_sent(u8 mode) {
 
 static int same_receiver(struct zaytulobe_receiver one, struct zaytulobe_receiver other) {
     return one.history == other.history && one.command == other.command && one.waiting == other.waiting
-        && one.trusted == other.trusted && memcmp(one.octets, other.octets, USER_OCTETS) == 0 && one.invalid == other.invalid;
+        && one.trusted == other.trusted && memcmp(one.octets, other.octets, USER_OCTETS) == 0 && one.invalid == other.invalid
+        && one.own == other.own;
 }
 
+/* In mode 4, where each field of a receiver has more than one value. */
 static void try_receiver(const char *field, u64 highest, struct zaytulobe_receiver fits, struct zaytulobe_receiver next) {
-    int fitting = receive(CRC12, fits, 0, 1, &out, 0).refusal;
-    struct zaytulobe_received refused = receive(CRC12, next, 0, 1, &out, 0);
+    int fitting = receive(CRC3, fits, 0, 1, &out, 0).refusal;
+    struct zaytulobe_received refused = receive(CRC3, next, 0, 1, &out, 0);
     print_field(field, highest, fitting, refused.refusal, same_receiver(refused.state, next));
 }
 
 /* With one waiting each field may have any value up to its highest. */
 static void run_receiver(void) {
     u64 bits58 = (1UL << 58) - 1;
-    struct zaytulobe_receiver fits[5] = {
-        {.history = bits58}, {.command = 255}, {.waiting = 1}, {.trusted = 1}, {.invalid = 32}};
-    struct zaytulobe_receiver next[5] = {
-        {.history = bits58 + 1}, {.command = 256}, {.waiting = 2}, {.trusted = 2}, {.invalid = 33}};
-    for (int k = 0; k < 5; k++) {
+    struct zaytulobe_receiver fits[6] = {
+        {.history = bits58}, {.command = 255}, {.waiting = 1}, {.trusted = 1}, {.invalid = 32}, {.own = 511}};
+    struct zaytulobe_receiver next[6] = {
+        {.history = bits58 + 1}, {.command = 256}, {.waiting = 2}, {.trusted = 2}, {.invalid = 33}, {.own = 512}};
+    for (int k = 0; k < 6; k++) {
         fits[k].waiting = 1;
         next[k].waiting = k == 2 ? 2 : 1;
     }
     try_receiver("receiver.history", bits58, fits[0], next[0]);
-    try_receiver("receiver.command, CRC-12", 255, fits[1], next[1]);
+    try_receiver("receiver.command, CRC-3", 255, fits[1], next[1]);
     try_receiver("receiver.waiting", 1, fits[2], next[2]);
     try_receiver("receiver.trusted", 1, fits[3], next[3]);
     try_receiver("receiver.invalid", 32, fits[4], next[4]);
+    try_receiver("receiver.own, CRC-3", 511, fits[5], next[5]);
 }
 
 /* The two flags by what they do. Of 256 octets all but one 0: the release has its first octet that isn't 0 there. */
@@ -126,6 +137,14 @@ static void run_flags_and_octets(void) {
     printf("receiver.octets, one waiting: one of them 1 is the first not 0 in the release: %lu of %d\n", first, USER_OCTETS);
 }
 
+/* The parity that a sync word carries of its own multiblock: with CRC-3 of its first three groups, B C D, three bits each. */
+static u32 own_carried(u8 mode, size multiblock) {
+    u32 own = 0;
+    for (size position = DATA_BITS; mode == CRC3 && position < DATA_BITS + 9; position++)
+        own = 2 * own + lane_bit(place_of(mode, multiblock, position) + 1);
+    return own;
+}
+
 /* Each number of what comes back from receiving three multiblocks is worked from the lane; the last has three invalid headers
    that carry neither parity nor command. */
 static void run_received(u8 mode) {
@@ -144,7 +163,8 @@ static void run_received(u8 mode) {
     printf("command %u of %u sent, ", received.state.command, sent_commands[2]);
     printf("waiting %d, trusted %d, ", received.state.waiting, received.state.trusted);
     printf("octets %s, ", wrong == 0 ? "those on the lane" : "OTHERS");
-    printf("invalid %d of %lu on the lane\n", received.state.invalid, invalid);
+    printf("invalid %d of %lu on the lane, ", received.state.invalid, invalid);
+    printf("own %d of %u on the lane\n", received.state.own, own_carried(mode, 2));
     received = zaytulobe_receive(mode, zaytulobe_fresh_receiver(), lane, 1, out.octets, 0, out.statuses, 0, out.commands, 0,
         out.places, 0, out.patterns, 0, out.invalid, 0);
     printf("received, %s, of 1 lane octet: refusal %d, count %lu\n", name_of(mode), received.refusal, received.count);
@@ -218,10 +238,14 @@ int main(void) {
     run_sender();
     run_sent(CRC12);
     run_sent(CRC12_80);
+    run_sent(CRC3);
+    run_sent(COMMAND);
     run_receiver();
     run_flags_and_octets();
     run_received(CRC12);
     run_received(CRC12_80);
+    run_received(CRC3);
+    run_received(COMMAND);
     run_header_lock();
     run_extended_lock();
     run_answers();

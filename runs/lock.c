@@ -1,6 +1,6 @@
 /* The locks at the edges of their tables and along lanes that the sender made: document 01, "Lock tables" and "Numbers of
-   refusal"; of offsets modulo 80 document 02, request 2; of the kept phase request 4. A line says what was tried and what came
-   out; lock.txt has the lines expected. */
+   refusal"; of offsets modulo 80 document 02, request 2; of the kept phase request 4; of modes 4 and 5 request 5. A line says what was
+   tried and what came out; lock.txt has the lines expected. */
 #include "lane.h"
 
 enum { INVALID = 0, ONE = 1, ZERO = 2, ALSO_INVALID = 3 };
@@ -123,11 +123,11 @@ static void run_lanes(u32 e, const size starts[STARTS], size step) {
     run_starts(FEC, e, starts, step);
 }
 
-/* The bound is promised of CRC-12, whatever the width. */
-static void run_lanes_80(u32 e, const size starts[STARTS], size step) {
-    make_lane(CRC12_80, e, (160 * e + 95) / BLOCKS + 1);
-    printf("CRC-12-80, E %u, a lane of various octets:\n", e);
-    run_starts(CRC12_80, e, starts, step);
+/* The bound is promised of CRC-12, whatever the width, and of CRC-3 and mode 5, whose sync words have the same fixed bits. */
+static void run_bound(u8 mode, u32 e, const size starts[STARTS], size step) {
+    make_lane(mode, e, (160 * e + 95) / BLOCKS + 1);
+    printf("%s, E %u, a lane of various octets:\n", name_of(mode), e);
+    run_starts(mode, e, starts, step);
 }
 
 static void run_all_lanes(void) {
@@ -136,9 +136,12 @@ static void run_all_lanes(void) {
     run_lanes(1, one, 1);
     run_lanes(2, two, 1);
     run_lanes(256, many, 63);
-    run_lanes_80(1, one, 1);
-    run_lanes_80(2, two, 1);
-    run_lanes_80(256, many, 63);
+    static const u8 bounded[3] = {CRC12_80, CRC3, COMMAND};
+    for (int k = 0; k < 3; k++) {
+        run_bound(bounded[k], 1, one, 1);
+        run_bound(bounded[k], 2, two, 1);
+        run_bound(bounded[k], 256, many, 63);
+    }
 }
 
 /* The header is read where the offset says: an invalid one moves it on. */
@@ -409,6 +412,8 @@ static void run_calls(void) {
     try_step("mode 2", 2, 1, fresh, 1);
     try_step("mode 3", 3, 1, fresh, 1);
     try_step("mode 4", 4, 1, fresh, 1);
+    try_step("mode 5", 5, 1, fresh, 1);
+    try_step("mode 6", 6, 1, fresh, 1);
     try_step("mode 255", 255, 1, fresh, 1);
     try_step("E 0", 0, 0, fresh, 1);
     try_step("E 1", 0, 1, fresh, 1);
@@ -418,10 +423,10 @@ static void run_calls(void) {
     try_step("header 3", 0, 1, fresh, 3);
     try_step("header 4", 0, 1, fresh, 4);
     try_step("header 255", 0, 1, fresh, 255);
-    try_step("mode 4 and E 0", 4, 0, fresh, 1);
+    try_step("mode 6 and E 0", 6, 0, fresh, 1);
     try_step("E 0 and offset 66", 0, 0, broken, 1);
     try_step("offset 66 and header 4", 0, 1, broken, 4);
-    try_step("mode 4, E 0, offset 66 and header 4", 4, 0, broken, 4);
+    try_step("mode 6, E 0, offset 66 and header 4", 6, 0, broken, 4);
     try_step("mode 2, offset 66 and header 4", 2, 1, broken, 4);
     try_step("mode 2, offset 80 and header 4", 2, 1, broken_80, 4);
     try_step("mode 2, E 0 and offset 80", 2, 0, broken_80, 1);
@@ -566,6 +571,8 @@ int main(void) {
     run_slips(CRC12_80, 0);
     run_slips(CRC12_80, 1);
     run_slips(FEC_80, 41);
+    run_slips(CRC3, 1);
+    run_slips(COMMAND, 40);
     run_all_lanes();
     run_extended();
     run_all_kept();

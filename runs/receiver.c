@@ -1,6 +1,7 @@
 /* The receiver at its edges, and the longest run: document 01, "What the receiver releases", "Numbers of refusal" and the
-   last lines of "The dozen to prove"; of invalid headers document 02, request 1, and of fill bits request 2. A line says what was
-   tried and what came out (place and pattern where not both are 0); receiver.txt has the lines expected. */
+   last lines of "The dozen to prove"; of invalid headers document 02, request 1, of fill bits request 2, and of modes 4 and 5 request
+   5, with Tables 43, 44 and 47 of the standard. A line says what was tried and what came out (place and pattern where not both are 0);
+   receiver.txt has the lines expected. */
 #include "lane.h"
 
 int snprintf(char *text, size room, const char *format, ...);
@@ -48,9 +49,35 @@ static void run_bursts_crc12(u8 mode) {
     try_flips(mode, "2047, the last of the data", 2047, 1, 1);
 }
 
+/* Positions from 2048 on are the parities of the groups, B C D A, three each. */
+static void run_bursts_crc3(u8 mode) {
+    printf("%s, a multiblock with flips at positions of its data and of its four parities:\n", name_of(mode));
+    try_flips(mode, "none", 0, 0, 1);
+    try_flips(mode, "0 to 2, the first of group B", 0, 3, 1);
+    try_flips(mode, "509 to 511, the last of group B", 509, 3, 1);
+    try_flips(mode, "511 and 512, in groups B and C", 511, 2, 1);
+    try_flips(mode, "511 and 2048, the last of group B and the first of its parity", 511, 2, 1537);
+    try_flips(mode, "2045 to 2047, the last of group A", 2045, 3, 1);
+    try_flips(mode, "2048 to 2050, all of CRC-B", 2048, 3, 1);
+    try_flips(mode, "2051 to 2053, all of CRC-C", 2051, 3, 1);
+    try_flips(mode, "2054 to 2056, all of CRC-D", 2054, 3, 1);
+    try_flips(mode, "2057 to 2059, all of CRC-A", 2057, 3, 1);
+    try_flips(mode, "2048, 2051, 2054 and 2057, one of each parity", 2048, 4, 3);
+    try_flips(mode, "0 to 6, which CRC-3 doesn't see, since x^7 is 1", 0, 7, 1);
+}
+
+static void run_bursts_command(u8 mode) {
+    printf("%s, a multiblock with flips at positions of its data:\n", name_of(mode));
+    try_flips(mode, "none", 0, 0, 1);
+    try_flips(mode, "0", 0, 1, 1);
+    try_flips(mode, "0 to 2047", 0, 2048, 1);
+    try_flips(mode, "2047, the last of the data", 2047, 1, 1);
+}
+
 static int same_state(struct zaytulobe_receiver one, struct zaytulobe_receiver other) {
     return one.history == other.history && one.command == other.command && one.waiting == other.waiting
-        && one.trusted == other.trusted && memcmp(one.octets, other.octets, USER_OCTETS) == 0 && one.invalid == other.invalid;
+        && one.trusted == other.trusted && memcmp(one.octets, other.octets, USER_OCTETS) == 0 && one.invalid == other.invalid
+        && one.own == other.own;
 }
 
 /* A call with all that a caller chooses: the mode, the state, where the lane begins, and each length. */
@@ -145,6 +172,8 @@ static void run_modes(void) {
     try_call("mode 2", call_of(2, fresh, 2));
     try_call("mode 3", call_of(3, fresh, 2));
     try_call("mode 4", call_of(4, fresh, 2));
+    try_call("mode 5", call_of(5, fresh, 2));
+    try_call("mode 6", call_of(6, fresh, 2));
     try_call("mode 255", call_of(255, fresh, 2));
 }
 
@@ -177,6 +206,41 @@ static void run_waiting_states(void) {
     try_waiting("CRC-12-80, one waiting, command 256", CRC12_80, 0, 256, 1);
     try_waiting("FEC-80, one waiting, command 0", FEC_80, 0, 0, 1);
     try_waiting("FEC-80, one waiting, command 1", FEC_80, 0, 1, 1);
+    try_waiting("CRC-3, one waiting, history 2^58 - 1", CRC3, most, 0, 0);
+    try_waiting("CRC-3, one waiting, history 2^58", CRC3, most + 1, 0, 0);
+    try_waiting("CRC-3, one waiting, command 255", CRC3, 0, 255, 1);
+    try_waiting("CRC-3, one waiting, command 256", CRC3, 0, 256, 1);
+    try_waiting("CMD, one waiting, history 2^58 - 1", COMMAND, most, 0, 0);
+    try_waiting("CMD, one waiting, history 2^58", COMMAND, most + 1, 0, 0);
+    try_waiting("CMD, one waiting, command 256", COMMAND, 0, 256, 1);
+    try_waiting("CMD, one waiting, command 2^20 - 1", COMMAND, 0, 1048575, 1);
+    try_waiting("CMD, one waiting, command 2^20", COMMAND, 0, 1048576, 1);
+    try_waiting("CMD, one waiting, trust given as 2", COMMAND, 0, 0, 2);
+}
+
+/* The parity that came with the waiting multiblock's own sync word: nine bits in mode 4, none in the others, none if nothing waits. */
+static void try_own(u8 mode, u8 waiting, u16 own, size multiblocks) {
+    char label[80];
+    struct zaytulobe_receiver state = {.waiting = waiting, .own = own};
+    snprintf(label, sizeof label, "%s, %s, own %d%s", name_of(mode), waiting ? "one waiting" : "nothing waiting", own,
+        multiblocks ? "" : ", no lane octets");
+    try_call(label, call_of(mode, state, multiblocks));
+}
+
+static void run_own_states(void) {
+    try_own(CRC3, 1, 0, 1);
+    try_own(CRC3, 1, 511, 1);
+    try_own(CRC3, 1, 512, 1);
+    try_own(CRC3, 1, 65535, 1);
+    try_own(CRC3, 1, 511, 0);
+    try_own(CRC3, 1, 512, 0);
+    try_own(CRC3, 0, 1, 1);
+    try_own(CRC3, 0, 511, 0);
+    for (u8 mode = 0; mode < MODES; mode++)
+        if (mode != CRC3)
+            try_own(mode, 1, 1, 1);
+    try_own(CRC12, 0, 1, 0);
+    try_own(COMMAND, 0, 1, 1);
 }
 
 /* A state with one waiting that had so many invalid headers, and the multiblock after it. */
@@ -186,7 +250,7 @@ static struct call with_invalid(u8 mode, u8 invalid) {
 }
 
 static void run_invalid_states(void) {
-    struct zaytulobe_receiver marked = {.waiting = 1, .command = ZAYTULOBE_COMMAND_FLAG}, empty = {.invalid = 1};
+    struct zaytulobe_receiver marked = {.waiting = 1, .command = ZAYTULOBE_COMMAND_FLAG(CRC12)}, empty = {.invalid = 1};
     try_call("CRC-12, one waiting, 1 invalid header", with_invalid(CRC12, 1));
     try_call("CRC-12, one waiting, 32 invalid headers", with_invalid(CRC12, 32));
     try_call("CRC-12, one waiting, 33 invalid headers", with_invalid(CRC12, 33));
@@ -270,8 +334,8 @@ static void run_room_for_invalid(void) {
 /* The lower number of two that apply. */
 static void run_two_at_once(void) {
     struct zaytulobe_receiver fresh = zaytulobe_fresh_receiver(), broken = {.history = 1};
-    struct call call = call_of(4, broken, 1);
-    try_call("mode 4 and a broken state", call);
+    struct call call = call_of(6, broken, 1);
+    try_call("mode 6 and a broken state", call);
     call = call_of(FEC, broken, 1), call.lane = 263;
     try_call("a broken state and 263 lane octets", call);
     call = call_of(FEC, fresh, 241), call.lane += 1;
@@ -280,7 +344,7 @@ static void run_two_at_once(void) {
     try_call("241 multiblocks and no room for octets", call);
     call = call_of(FEC, fresh, 2), call.lane += 1, call.statuses = 0;
     try_call("a lane of one octet more than 2 multiblocks and no room for statuses", call);
-    call = call_of(4, broken, 241), call.lane += 1, call.octets = 0;
+    call = call_of(6, broken, 241), call.lane += 1, call.octets = 0;
     try_call("all five", call);
     call = call_of(FEC_80, broken, 1), call.lane = 264;
     try_call("FEC-80, a broken state and 264 lane octets", call);
@@ -290,6 +354,14 @@ static void run_two_at_once(void) {
     try_call("FEC-80, 201 multiblocks and no room for octets", call);
     call = call_of(FEC_80, fresh, 33), call.lane = 264 * 40;
     try_call("FEC-80, the 10,560 lane octets of 40 multiblocks of 66-bit blocks", call);
+    broken.history = 0, broken.waiting = broken.own = 1;
+    call = call_of(COMMAND, broken, 1), call.lane = 263;
+    try_call("CMD, one waiting, own 1 and 263 lane octets", call);
+}
+
+/* The block whose header carries bit 5 of the command, and that of a parity bit with FEC. */
+static size command_block(u8 mode) {
+    return mode == CRC3 ? 5 : 17;
 }
 
 /* A lane with a burst that is mended or found, one that isn't, an invalid header in a command and one elsewhere. */
@@ -301,7 +373,7 @@ static void make_damaged(u8 mode, size multiblocks) {
         flip_position(mode, 3, 2039 + k);
     flip_position(mode, 4, 100);
     flip_position(mode, 4, 1900);
-    flip_bit(header_place(mode, 5, 17));
+    flip_bit(header_place(mode, 5, command_block(mode)));
     flip_bit(header_place(mode, 6, 31));
 }
 
@@ -355,6 +427,57 @@ static void run_invalid(u8 mode, size multiblocks) {
         print_invalid(&parts, head.count + tail.count);
         printf(", waiting with %d\n", tail.state.invalid);
     }
+}
+
+/* Multiblock 1 of three that carry the highest command, with one header made invalid: the command that is released with it. */
+static u32 command_with(u8 mode, size block, u8 header) {
+    u32 most = ZAYTULOBE_MOST_COMMAND(mode), commands[3] = {most, most, most};
+    memset(user, 0, sizeof user);
+    zaytulobe_send(mode, 3, zaytulobe_fresh_sender(), user, 3 * USER_OCTETS, commands, 3, lane, sizeof lane);
+    put_header(mode, 1, block, header);
+    receive(mode, zaytulobe_fresh_receiver(), 0, 3, &out, 0);
+    return out.commands[1];
+}
+
+/* An invalid header of a command's bit is read as 0 and adds the mark, 2 to the power of the command's width; one elsewhere does
+   nothing to the command. */
+static void run_marks(u8 mode, u8 header) {
+    u32 most = ZAYTULOBE_MOST_COMMAND(mode);
+    size as_sent = 0;
+    printf("%s, command %u sent, one header %d%d: received", name_of(mode), most, header / 2, header % 2);
+    for (size block = 0; block < BLOCKS; block++) {
+        u32 command = command_with(mode, block, header);
+        as_sent += command == most;
+        if (command != most)
+            printf(" %u at %lu,", command, block);
+    }
+    printf(" as sent at %lu positions\n", as_sent);
+}
+
+static u8 status_of_first(struct zaytulobe_receiver state) {
+    memset(&out, UNTOUCHED, sizeof out);
+    receive(CRC3, state, 1, 1, &out, 0);
+    return out.statuses[0];
+}
+
+/* The first multiblock waits with what came of its parity, B C D, and the next brings A. Each bit of them alone is turned, so that one
+   group alone disagrees. */
+static void run_own(void) {
+    size failed = 0, failed_by_a = 0;
+    make_lane(CRC3, 3, 2);
+    struct zaytulobe_receiver waits = receive(CRC3, zaytulobe_fresh_receiver(), 0, 1, &out, 0).state;
+    printf("CRC-3, one waiting, own as it came: status %d", status_of_first(waits));
+    for (size bit = 0; bit < 9; bit++) {
+        struct zaytulobe_receiver turned = waits;
+        turned.own ^= (u16)(1 << bit);
+        failed += status_of_first(turned) == ZAYTULOBE_FAILED + ZAYTULOBE_UNTRUSTED;
+    }
+    for (size block = 0; block < 3; block++) {
+        flip_position(CRC3, 0, DATA_BITS + 9 + block);
+        failed_by_a += status_of_first(waits) == ZAYTULOBE_FAILED + ZAYTULOBE_UNTRUSTED;
+        flip_position(CRC3, 0, DATA_BITS + 9 + block);
+    }
+    printf("; with one bit of it turned: 6 for %lu of 9; with one bit of CRC-A turned: 6 for %lu of 3\n", failed, failed_by_a);
 }
 
 /* Whether the damaged lane, as it stands now, is received as it was when `out` and the state were made. */
@@ -452,10 +575,13 @@ int main(void) {
     run_bursts_crc12(CRC12);
     run_bursts_fec(FEC_80);
     run_bursts_crc12(CRC12_80);
+    run_bursts_crc3(CRC3);
+    run_bursts_command(COMMAND);
     for (u8 mode = 0; mode < MODES; mode++)
         run_counts(mode);
     run_modes();
     run_waiting_states();
+    run_own_states();
     run_invalid_states();
     run_empty_states();
     for (u8 mode = 0; mode < MODES; mode++)
@@ -467,6 +593,11 @@ int main(void) {
         run_cuts(mode, 8);
     for (u8 mode = 0; mode < MODES; mode++)
         run_invalid(mode, 6);
+    for (u8 mode = 0; mode < MODES; mode++) {
+        run_marks(mode, 0);
+        run_marks(mode, 3);
+    }
+    run_own();
     run_fill(CRC12_80, 8);
     run_fill(FEC_80, 8);
     run_longest();

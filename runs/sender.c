@@ -1,7 +1,8 @@
 /* The sender at the edges of what it accepts: document 01, "From octets to lane bits" for sync words and states, "Numbers of
-   refusal", and the last lines of "The dozen to prove"; with fill bits document 02, request 2, and Table 38 of the standard. User
-   octets are 165 each but in lanes that are cut; a sync word is that of the first multiblock, in hexadecimal. A line says what was
-   tried and what came out; sender.txt has the lines expected. */
+   refusal", and the last lines of "The dozen to prove"; with fill bits document 02, request 2, and Table 38 of the standard; of modes
+   4 and 5 request 5, and Tables 43, 44 and 47. User octets are 165 each but in lanes that are cut, and where a line says otherwise; a
+   sync word is that of the first multiblock, in hexadecimal. A line says what was tried and what came out; sender.txt has the lines
+   expected. */
 #include "lane.h"
 
 enum { CUT = 8 };
@@ -91,7 +92,21 @@ static void run_counts_80(void) {
     try_call("FEC-80, 201 multiblocks, E 7", FEC_80, 7, fresh, 51456, 201, 0, 64320);
 }
 
-/* In modes 2 and 3 the register is any of 17 bits but all ones, in modes 0 and 1 it is 0. */
+static void run_counts_4_and_5(void) {
+    struct zaytulobe_sender fresh = zaytulobe_fresh_sender();
+    try_call("CRC-3, 0 multiblocks", CRC3, 4, fresh, 0, 0, 0, 0);
+    try_call("CMD, 0 multiblocks", COMMAND, 4, fresh, 0, 0, 0, 0);
+    try_call("CRC-3, 0 multiblocks, after others", CRC3, 4, of(5, 6, 3), 0, 0, 0, 0);
+    try_call("CMD, 0 multiblocks, after others", COMMAND, 4, of(5, 0, 3), 0, 0, 0, 0);
+    try_call("CRC-3, 1 multiblock", CRC3, 4, fresh, 256, 1, 0, 264);
+    try_call("CMD, 1 multiblock", COMMAND, 4, fresh, 256, 1, 0, 264);
+    try_call("CRC-3, 240 multiblocks, E 7", CRC3, 7, fresh, 61440, 240, 0, 63360);
+    try_call("CMD, 240 multiblocks, E 7", COMMAND, 7, fresh, 61440, 240, 0, 63360);
+    try_call("CRC-3, 241 multiblocks, E 7", CRC3, 7, fresh, 61696, 241, 0, 63624);
+    try_call("CMD, 241 multiblocks, E 7", COMMAND, 7, fresh, 61696, 241, 0, 63624);
+}
+
+/* In modes 2 and 3 the register is any of 17 bits but all ones, in the others it is 0. */
 static void run_fills(void) {
     try_call("CRC-12-80, fill 1", CRC12_80, 4, of_fill(1), 256, 1, 0, 320);
     try_call("CRC-12-80, fill 2^17 - 2", CRC12_80, 4, of_fill(131070), 256, 1, 0, 320);
@@ -104,15 +119,19 @@ static void run_fills(void) {
     try_call("CRC-12, fill 1", CRC12, 4, of_fill(1), 256, 1, 0, 264);
     try_call("FEC, fill 1", FEC, 4, of_fill(1), 256, 1, 0, 264);
     try_call("FEC, fill 2^17 - 2, 0 multiblocks", FEC, 4, of_fill(131070), 0, 0, 0, 0);
+    try_call("CRC-3, fill 1", CRC3, 4, of_fill(1), 256, 1, 0, 264);
+    try_call("CMD, fill 1", COMMAND, 4, of_fill(1), 256, 1, 0, 264);
 }
 
 static void run_modes(void) {
     struct zaytulobe_sender fresh = zaytulobe_fresh_sender();
-    try_call("mode 4", 4, 4, fresh, 256, 1, 0, 264);
+    try_call("mode 6", 6, 4, fresh, 256, 1, 0, 264);
     try_call("mode 255", 255, 4, fresh, 256, 1, 0, 264);
     try_call("CRC-12, E 0", CRC12, 0, fresh, 256, 1, 0, 264);
     try_call("CRC-12, E 1, which ends with each multiblock", CRC12, 1, fresh, 256, 1, 0, 264);
     try_call("FEC, E 1, which ends with each multiblock", FEC, 1, fresh, 256, 1, 0, 264);
+    try_call("CRC-3, E 1, which ends with each multiblock", CRC3, 1, fresh, 256, 1, 0, 264);
+    try_call("CMD, E 1, which ends with each multiblock", COMMAND, 1, fresh, 256, 1, 0, 264);
     try_call("CRC-12, E 256, number 254", CRC12, 256, of(0, 0, 254), 256, 1, 0, 264);
     try_call("CRC-12, E 256, number 255, the last", CRC12, 256, of(0, 0, 255), 256, 1, 0, 264);
     try_call("CRC-12, E 257", CRC12, 257, fresh, 256, 1, 0, 264);
@@ -130,6 +149,16 @@ static void run_states(void) {
     try_call("CRC-12-80, parity 2^12", CRC12_80, 4, of(0, 0x1000, 0), 256, 1, 0, 320);
     try_call("FEC-80, parity 2^12", FEC_80, 4, of(0, 0x1000, 0), 256, 1, 0, 320);
     try_call("FEC-80, parity 2^26", FEC_80, 4, of(0, 0x4000000, 0), 256, 1, 0, 320);
+    try_call("CRC-3, history 2^58 - 1", CRC3, 4, of(most, 0, 0), 256, 1, 0, 264);
+    try_call("CRC-3, history 2^58", CRC3, 4, of(most + 1, 0, 0), 256, 1, 0, 264);
+    try_call("CRC-3, parity 2^3 - 1", CRC3, 4, of(0, 7, 0), 256, 1, 0, 264);
+    try_call("CRC-3, parity 2^3", CRC3, 4, of(0, 8, 0), 256, 1, 0, 264);
+    try_call("CRC-3, parity 2^3, 0 multiblocks", CRC3, 4, of(0, 8, 0), 0, 0, 0, 0);
+    try_call("CMD, history 2^58 - 1", COMMAND, 4, of(most, 0, 0), 256, 1, 0, 264);
+    try_call("CMD, history 2^58", COMMAND, 4, of(most + 1, 0, 0), 256, 1, 0, 264);
+    try_call("CMD, parity 0", COMMAND, 4, of(0, 0, 0), 256, 1, 0, 264);
+    try_call("CMD, parity 1", COMMAND, 4, of(0, 1, 0), 256, 1, 0, 264);
+    try_call("CMD, parity 1, 0 multiblocks", COMMAND, 4, of(0, 1, 0), 0, 0, 0, 0);
     try_call("CRC-12, E 4, number 3, the last", CRC12, 4, of(0, 0, 3), 256, 1, 0, 264);
     try_call("CRC-12, E 4, number 4", CRC12, 4, of(0, 0, 4), 256, 1, 0, 264);
     try_call("CRC-12, E 4, number 4, 0 multiblocks", CRC12, 4, of(0, 0, 4), 0, 0, 0, 0);
@@ -161,24 +190,59 @@ static void run_commands(void) {
     try_call("CRC-12-80, command 127", CRC12_80, 4, fresh, 256, 1, 127, 320);
     try_call("CRC-12-80, command 128", CRC12_80, 4, fresh, 256, 1, 128, 320);
     try_call("FEC-80, command 1", FEC_80, 4, fresh, 256, 1, 1, 320);
+    try_call("CRC-3, command 127", CRC3, 4, fresh, 256, 1, 127, 264);
+    try_call("CRC-3, command 128", CRC3, 4, fresh, 256, 1, 128, 264);
+    try_call("CRC-3, parity 5, command 65", CRC3, 4, of(0, 5, 0), 256, 1, 65, 264);
+    try_call("CMD, command 128", COMMAND, 4, fresh, 256, 1, 128, 264);
+    try_call("CMD, command 2^19 - 1", COMMAND, 4, fresh, 256, 1, 524287, 264);
+    try_call("CMD, command 2^19", COMMAND, 4, fresh, 256, 1, 524288, 264);
+    try_call("CMD, command 2^32 - 1", COMMAND, 4, fresh, 256, 1, 0xffffffff, 264);
+    try_call("CMD, command 55AA5, in hexadecimal", COMMAND, 4, fresh, 256, 1, 0x55aa5, 264);
 }
 
 /* The lower number of two that apply. */
 static void run_two_at_once(void) {
     struct zaytulobe_sender fresh = zaytulobe_fresh_sender(), high = of(0, 0, 4);
-    try_call("1 and 2: mode 4, E 0", 4, 0, fresh, 256, 1, 0, 264);
+    try_call("1 and 2: mode 6, E 0", 6, 0, fresh, 256, 1, 0, 264);
     try_call("2 and 3: E 257, number 257", CRC12, 257, of(0, 0, 257), 256, 1, 0, 264);
     try_call("3 and 4: E 4, number 4, 257 user octets", CRC12, 4, high, 257, 1, 0, 264);
     try_call("4 and 5: one user octet more than 241 multiblocks", CRC12, 4, fresh, 61697, 241, 0, 63624);
     try_call("5 and 6: 241 multiblocks, 240 commands", CRC12, 4, fresh, 61696, 240, 0, 63624);
     try_call("6 and 7: command 128, 263 octets of room", CRC12, 4, fresh, 256, 1, 128, 263);
     try_call("3 and 7: E 4, number 4, 263 octets of room", CRC12, 4, high, 256, 1, 0, 263);
-    try_call("all seven", 4, 0, high, 61697, 240, 128, 0);
+    try_call("all seven", 6, 0, high, 61697, 240, 128, 0);
     try_call("2 and 3: FEC-80, E 0, fill 2^17 - 1", FEC_80, 0, of_fill(131071), 256, 1, 0, 320);
     try_call("3 and 4: FEC-80, fill 2^17 - 1, 257 user octets", FEC_80, 4, of_fill(131071), 257, 1, 0, 320);
     try_call("4 and 5: FEC-80, one user octet more than 201 multiblocks", FEC_80, 4, fresh, 51457, 201, 0, 64320);
     try_call("5 and 6: FEC-80, 201 multiblocks, 200 commands", FEC_80, 4, fresh, 51456, 200, 0, 64320);
     try_call("6 and 7: FEC-80, command 1, 319 octets of room", FEC_80, 4, fresh, 256, 1, 1, 319);
+    try_call("2 and 3: CRC-3, E 0, parity 8", CRC3, 0, of(0, 8, 0), 256, 1, 0, 264);
+    try_call("3 and 4: CMD, parity 1, 257 user octets", COMMAND, 4, of(0, 1, 0), 257, 1, 0, 264);
+    try_call("5 and 6: CRC-3, 241 multiblocks, 240 commands", CRC3, 4, fresh, 61696, 240, 0, 63624);
+    try_call("6 and 7: CMD, command 2^19, 263 octets of room", COMMAND, 4, fresh, 256, 1, 524288, 263);
+}
+
+/* Scrambled bit n alone is 1, history 0: so are user bits n, n + 39 and n + 58. By CRC-3 the first and the last bit of a group have
+   remainder 3 both, x^3 and x^514 modulo x^3+x+1, and the last but one has 6, x^4. */
+static void try_bit(size bit) {
+    static const u32 no_command[1];
+    static const size after[3] = {0, 39, 58};
+    memset(user, 0, sizeof user);
+    for (int k = 0; k < 3; k++)
+        user[(bit + after[k]) / 8] ^= (u8)(128 >> (bit + after[k]) % 8);
+    struct zaytulobe_sent sent = zaytulobe_send(CRC3, 4, zaytulobe_fresh_sender(), user, USER_OCTETS, no_command, 1, lane, sizeof lane);
+    printf("CRC-3, scrambled bit %lu alone: sync word %08X, parity %u", bit, first_word(CRC3), sent.state.parity);
+    sent = zaytulobe_send(CRC3, 4, sent.state, user + USER_OCTETS, USER_OCTETS, no_command, 1, lane, sizeof lane);
+    printf(", the next sync word %08X, parity %u\n", first_word(CRC3), sent.state.parity);
+}
+
+/* At the edges of the groups. */
+static void run_groups(void) {
+    for (size group = 0; group < GROUPS; group++) {
+        try_bit(GROUP_BITS * group);
+        try_bit(GROUP_BITS * group + GROUP_BITS - 2);
+        try_bit(GROUP_BITS * group + GROUP_BITS - 1);
+    }
 }
 
 /* So many multiblocks from one on, sent to their place in the parts. */
@@ -258,12 +322,14 @@ static void run_fill_bits(u8 mode, u32 fill, size multiblocks) {
 int main(void) {
     run_counts();
     run_counts_80();
+    run_counts_4_and_5();
     run_modes();
     run_states();
     run_fills();
     run_lengths();
     run_commands();
     run_two_at_once();
+    run_groups();
     for (u8 mode = 0; mode < MODES; mode++)
         run_cuts(mode);
     for (u8 mode = 0; mode < MODES; mode++)
