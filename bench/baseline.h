@@ -22,7 +22,12 @@ LISTING(tuned_listing);
 
 void *memcpy(void *to, const void *from, size count);
 
-enum { CRC12_LOWER = 0x30f, FEC_LOWER = 0x220211, MOST = MOST_MULTIBLOCKS };
+enum { CRC12_LOWER = 0x30f, FEC_LOWER = 0x220211, CRC3_LOWER = 3, MOST = MOST_MULTIBLOCKS };
+
+/* Bits of a remainder, of which the next sync word carries the last group's. */
+static inline u32 parity_width(u8 mode) {
+    return has_fec(mode) ? 26 : mode == CRC3 ? 3 : mode == COMMAND ? 0 : 12;
+}
 
 static inline u8 send_refusal(u8 mode, u32 e, struct zaytulobe_sender state, size user_length, const u32 *commands,
     size commands_length, size lane_length) {
@@ -30,7 +35,7 @@ static inline u8 send_refusal(u8 mode, u32 e, struct zaytulobe_sender state, siz
         return ZAYTULOBE_REFUSED_MODE;
     if (e < ZAYTULOBE_LEAST_E || e > ZAYTULOBE_MOST_E)
         return ZAYTULOBE_REFUSED_E;
-    if (state.history >> 58 || state.parity >> (has_fec(mode) ? 26 : 12) || state.number >= e)
+    if (state.history >> 58 || state.parity >> parity_width(mode) || state.number >= e)
         return ZAYTULOBE_REFUSED_STATE;
     if (state.fill > ZAYTULOBE_MOST_FILL(mode))
         return ZAYTULOBE_REFUSED_STATE;
@@ -48,15 +53,17 @@ static inline u8 send_refusal(u8 mode, u32 e, struct zaytulobe_sender state, siz
 }
 
 static inline int state_fits(u8 mode, const struct zaytulobe_receiver *state) {
-    u32 command = has_fec(mode) ? 0 : 2 * ZAYTULOBE_COMMAND_FLAG - 1;
+    u32 command = has_fec(mode) ? 0 : 2 * ZAYTULOBE_COMMAND_FLAG(mode) - 1;
     if (state->waiting > 1 || state->trusted > 1 || state->history >> 58 || state->command > command || state->invalid > BLOCKS)
+        return 0;
+    if (state->own > ZAYTULOBE_MOST_OWN(mode))
         return 0;
     if (state->waiting)
         return 1;
     u8 any = 0;
     for (int k = 0; k < USER_OCTETS; k++)
         any |= state->octets[k];
-    return !any && !state->history && !state->command && !state->trusted && !state->invalid;
+    return !any && !state->history && !state->command && !state->trusted && !state->invalid && !state->own;
 }
 
 static inline u8 receive_refusal(u8 mode, const struct zaytulobe_receiver *state, size lane_length, size octets_length,
@@ -94,7 +101,7 @@ static inline u8 capture_refusal(const u8 *capture, size length) {
 }
 
 static inline u8 *put_name(u8 *at, u8 mode) {
-    static const char *const names[MODES] = {"crc12", "fec", "crc12-80", "fec-80"};
+    static const char *const names[MODES] = {"crc12", "fec", "crc12-80", "fec-80", "crc3", "cmd"};
     for (const char *from = names[mode]; *from; from++)
         *at++ = (u8)*from;
     *at++ = ' ';

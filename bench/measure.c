@@ -28,7 +28,7 @@ static const struct library {
 
 enum work { SENDING, RECEIVING, LISTING };
 enum damage { CLEAN, REPAIRED, LAST, FAILED };
-enum { CASES = 18, LIBRARY_COUNT = 3, E = 4, WIDE = ZAYTULOBE_MOST_MULTIBLOCKS(FEC_80) };
+enum { CASES = 20, LIBRARY_COUNT = 3, E = 4, WIDE = ZAYTULOBE_MOST_MULTIBLOCKS(FEC_80) };
 
 /* A plain search takes so long that the cases with one in every multiblock have fewer. */
 static const struct made {
@@ -56,6 +56,8 @@ static const struct made {
     {"failed-fec-80", RECEIVING, FEC_80, FAILED, 48},
     {"listing-crc12-80", LISTING, CRC12_80, CLEAN, WIDE},
     {"listing-fec-80", LISTING, FEC_80, CLEAN, WIDE},
+    {"send-crc3", SENDING, CRC3, CLEAN, MOST},
+    {"clean-crc3", RECEIVING, CRC3, CLEAN, MOST},
 };
 
 static u64 stands_at;
@@ -118,7 +120,7 @@ static void prepare(const struct made *made) {
     for (size k = 0; k < sizeof user; k++)
         user[k] = (u8)draw(256);
     for (size k = 0; k <= MOST; k++)
-        commands[k] = has_fec(made->mode) ? 0 : draw(ZAYTULOBE_MOST_COMMAND(CRC12) + 1);
+        commands[k] = has_fec(made->mode) ? 0 : draw(ZAYTULOBE_MOST_COMMAND(made->mode) + 1);
     struct zaytulobe_sender fresh = {0, 0, 0, 0};
     struct zaytulobe_sender state = zaytulobe_send(made->mode, E, fresh, user, USER_OCTETS, commands, 1, lane, one).state;
     zaytulobe_send(made->mode, E, state, user + USER_OCTETS, USER_OCTETS * n, commands + 1, n, lane + one, length);
@@ -147,8 +149,8 @@ static void turn(const struct made *made, const struct library *library, struct 
             made->mode, before, lane + one, one * n, to->octets, sizeof to->octets, to->statuses, MOST,
             to->commands, MOST, to->places, MOST, to->patterns, MOST, to->invalid, MOST);
         struct zaytulobe_receiver *state = &received.state;
-        u64 numbers[7] = {
-            received.refusal, received.count, state->history, state->command, state->waiting, state->trusted, state->invalid};
+        u64 numbers[8] = {received.refusal, received.count, state->history, state->command, state->waiting, state->trusted,
+            state->invalid, state->own};
         memcpy(to->numbers, numbers, sizeof numbers);
         memcpy(to->waiting, state->octets, USER_OCTETS);
     } else {

@@ -3,13 +3,22 @@
 
 enum { POSITIONS = 2074, LIMIT = 9 };
 
-/* What stands at each position of a sync word: a bit of the parity, a bit of the command, the end mark, or a fixed bit. */
-enum { COMMAND = 32, MARK = 64, ZERO, ONE };
-static const u8 LAYOUTS[2][BLOCKS] = {
-    {11, 10, 9, ONE, 8, 7, 6, ONE, 5, 4, 3, ONE, 2, 1, 0, ONE, COMMAND + 6, COMMAND + 5, COMMAND + 4, ONE, COMMAND + 3, ONE, MARK,
-        ONE, COMMAND + 2, COMMAND + 1, COMMAND, ZERO, ZERO, ZERO, ZERO, ONE},
-    {25, 24, 23, 22, 21, 20, 19, 18, 17, 16, 15, 14, 13, 12, 11, 10, 9, 8, 7, 6, 5, 4, MARK, 3, 2, 1, 0, ZERO, ZERO, ZERO, ZERO, ONE},
-};
+/* What stands at each position of a sync word: a bit of the parity, a bit of the command, the end mark, or a fixed bit. The parity of
+   CRC-3 is that of its four groups, B C D A, the first highest: A, the last group's, is that of the multiblock before. */
+enum { CMD = 32, MARK = 64, ZERO, ONE };
+static const u8 CRC12_LAYOUT[BLOCKS] = {
+    11, 10, 9, ONE, 8, 7, 6, ONE, 5, 4, 3, ONE, 2, 1, 0, ONE, CMD + 6, CMD + 5, CMD + 4, ONE, CMD + 3, ONE, MARK, ONE, CMD + 2, CMD + 1,
+    CMD, ZERO, ZERO, ZERO, ZERO, ONE};
+static const u8 FEC_LAYOUT[BLOCKS] = {
+    25, 24, 23, 22, 21, 20, 19, 18, 17, 16, 15, 14, 13, 12, 11, 10, 9, 8, 7, 6, 5, 4, MARK, 3, 2, 1, 0, ZERO, ZERO, ZERO, ZERO, ONE};
+static const u8 CRC3_LAYOUT[BLOCKS] = {
+    2, 1, 0, ONE, CMD + 6, CMD + 5, CMD + 4, ONE, 11, 10, 9, ONE, CMD + 3, CMD + 2, CMD + 1, ONE, 8, 7, 6, ONE, CMD, ONE, MARK, ONE,
+    5, 4, 3, ZERO, ZERO, ZERO, ZERO, ONE};
+static const u8 COMMAND_LAYOUT[BLOCKS] = {
+    CMD + 18, CMD + 17, CMD + 16, ONE, CMD + 15, CMD + 14, CMD + 13, ONE, CMD + 12, CMD + 11, CMD + 10, ONE, CMD + 9, CMD + 8, CMD + 7,
+    ONE, CMD + 6, CMD + 5, CMD + 4, ONE, CMD + 3, ONE, MARK, ONE, CMD + 2, CMD + 1, CMD, ZERO, ZERO, ZERO, ZERO, ONE};
+static const u8 *const LAYOUTS[MODES] = {CRC12_LAYOUT, FEC_LAYOUT, CRC12_LAYOUT, FEC_LAYOUT, CRC3_LAYOUT, COMMAND_LAYOUT};
+static const u32 LOWERS[MODES] = {CRC12_LOWER, FEC_LOWER, CRC12_LOWER, FEC_LOWER, CRC3_LOWER, 0};
 
 static u32 weights[POSITIONS];
 
@@ -26,21 +35,31 @@ static void put_bit(u8 *octets, size bit, u32 value) {
 }
 
 static u32 times_x(u8 mode, u32 remainder) {
-    u32 width = has_fec(mode) ? 26 : 12, lower = has_fec(mode) ? FEC_LOWER : CRC12_LOWER;
-    u32 top = remainder >> (width - 1) & 1;
+    u32 width = parity_width(mode), top = remainder >> (width - 1) & 1;
     remainder = remainder << 1 & ((1u << width) - 1);
-    return top ? remainder ^ lower : remainder;
+    return top ? remainder ^ LOWERS[mode] : remainder;
 }
 
 static u32 next_remainder(u8 mode, u32 remainder, u32 bit) {
-    return times_x(mode, remainder ^ bit << (has_fec(mode) ? 25 : 11));
+    return mode == COMMAND ? 0 : times_x(mode, remainder ^ bit << (parity_width(mode) - 1));
 }
 
-static u32 remainder_of(u8 mode, const u8 *octets) {
-    u32 remainder = 0;
-    for (size bit = 0; bit < DATA_BITS; bit++)
+/* Whether a block is the last of a group, whose remainder is complete with it. */
+static int ends_group(u8 mode, size block) {
+    return block % (mode == CRC3 ? 8 : BLOCKS) == (mode == CRC3 ? 7 : BLOCKS - 1);
+}
+
+/* The remainders of all groups, the first one's highest. */
+static u32 parity_of(u8 mode, const u8 *octets) {
+    u32 parity = 0, remainder = 0;
+    for (size bit = 0; bit < DATA_BITS; bit++) {
         remainder = next_remainder(mode, remainder, bit_at(octets, bit));
-    return remainder;
+        if (bit % 64 == 63 && ends_group(mode, bit / 64)) {
+            parity = parity << parity_width(mode) | remainder;
+            remainder = 0;
+        }
+    }
+    return parity;
 }
 
 __attribute__((constructor)) static void make_weights(void) {
@@ -50,10 +69,10 @@ __attribute__((constructor)) static void make_weights(void) {
 }
 
 static u32 sync_bit(u8 mode, size position, u32 parity, u32 command, u32 mark) {
-    u8 field = LAYOUTS[has_fec(mode)][position];
+    u8 field = LAYOUTS[mode][position];
     if (field >= MARK)
         return field == MARK ? mark : field == ONE;
-    return field >= COMMAND ? command >> (field - COMMAND) & 1 : parity >> field & 1;
+    return field >= CMD ? command >> (field - CMD) & 1 : parity >> field & 1;
 }
 
 /* Table 38: the pair that PRBS[1:0] replaces. */
@@ -80,10 +99,12 @@ static void put_fill(u8 mode, u32 *fill, u8 *lane, size block) {
     *fill = next_fill(*fill);
 }
 
+/* The sync word carries the last group's remainder of the multiblock before, and the other groups' of its own, each in headers after
+   its group. */
 static void send_one(u8 mode, u32 e, struct zaytulobe_sender *state, const u8 *user, u32 command, u8 *lane) {
-    u32 parity = 0, last = state->number + 1 == e;
+    u32 parity = state->parity, remainder = 0, last = state->number + 1 == e;
     for (size block = 0; block < BLOCKS; block++) {
-        u32 carried = sync_bit(mode, block, state->parity, command, last);
+        u32 carried = sync_bit(mode, block, parity, command, last);
         put_bit(lane, block_bits(mode) * block, !carried);
         put_bit(lane, block_bits(mode) * block + 1, carried);
         put_fill(mode, &state->fill, lane, block);
@@ -91,11 +112,15 @@ static void send_one(u8 mode, u32 e, struct zaytulobe_sender *state, const u8 *u
             u32 sent = bit_at(user, bit) ^ (state->history >> 38 & 1) ^ (state->history >> 57 & 1);
             put_bit(lane, data_place(mode, bit), sent);
             state->history = state->history << 1 | sent;
-            parity = next_remainder(mode, parity, sent);
+            remainder = next_remainder(mode, remainder, sent);
+        }
+        if (ends_group(mode, block) && block != BLOCKS - 1) {
+            parity |= remainder << parity_width(mode) * ((BLOCKS - 1 - block) / 8);
+            remainder = 0;
         }
     }
     state->history &= (1ul << 58) - 1;
-    state->parity = parity;
+    state->parity = remainder;
     state->number = last ? 0 : state->number + 1;
 }
 
@@ -110,8 +135,9 @@ SEND(plain_send) {
     return sent;
 }
 
+/* `own` is the parity above what belongs to the multiblock before. */
 struct heard {
-    u32 parity, command;
+    u32 parity, own, command;
     u8 octets[USER_OCTETS], invalid;
 };
 
@@ -121,18 +147,20 @@ static void hear(u8 mode, const u8 *lane, struct heard *heard) {
     for (size block = 0; block < BLOCKS; block++) {
         size place = block_bits(mode) * block;
         u32 first = bit_at(lane, place), second = bit_at(lane, place + 1), carried = !first && second;
-        u8 field = LAYOUTS[has_fec(mode)][block];
+        u8 field = LAYOUTS[mode][block];
         heard->invalid += first == second;
-        if (field < COMMAND) {
+        if (field < CMD) {
             heard->parity |= carried << field;
         } else if (field < MARK) {
-            heard->command |= carried << (field - COMMAND);
+            heard->command |= carried << (field - CMD);
             flagged |= first == second;
         }
         for (size bit = 64 * block; bit < 64 * block + 64; bit++)
             put_bit(heard->octets, bit, bit_at(lane, data_place(mode, bit)));
     }
-    heard->command += flagged * ZAYTULOBE_COMMAND_FLAG;
+    heard->command += flagged * (u32)ZAYTULOBE_COMMAND_FLAG(mode);
+    heard->own = heard->parity >> parity_width(mode);
+    heard->parity -= heard->own << parity_width(mode);
 }
 
 static int find_burst(u32 difference, u16 *place, u16 *pattern) {
@@ -172,6 +200,7 @@ static void await(struct zaytulobe_receiver *state, const struct heard *heard) {
     state->waiting = 1;
     state->command = heard->command;
     state->invalid = heard->invalid;
+    state->own = (u16)heard->own;
     memcpy(state->octets, heard->octets, USER_OCTETS);
 }
 
@@ -187,7 +216,7 @@ RECEIVE(plain_receive) {
         struct heard heard;
         hear(mode, lane + at, &heard);
         if (now->waiting) {
-            u32 difference = remainder_of(mode, now->octets) ^ heard.parity;
+            u32 difference = parity_of(mode, now->octets) ^ ((u32)now->own << parity_width(mode) | heard.parity);
             u16 place = 0, pattern = 0;
             u8 status = ZAYTULOBE_AGREES;
             if (difference) {

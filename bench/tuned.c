@@ -1,11 +1,14 @@
 /* The tuned baseline: 64 bits at once, parity by eight rows of 256 remainders, error trapping, packing by shifts; with fill bits,
-   a block is ten octets, and the register moves by 17 bits at once. */
+   a block is ten octets, and the register moves by 17 bits at once. CRC-3 is folded, a group at a time. */
 #include "baseline.h"
 
-/* What is made for each mode by itself: the mode is a constant in it. */
+/* What is made for each mode by itself: the mode is a constant in it. Modes 4 and 5 stand in functions of their own, so as to take no
+   registers from the others. */
 #define FOR_EACH_MODE static inline __attribute__((always_inline))
+#define APART static __attribute__((noinline))
 
 static u32 crc12_rows[8][256], fec_rows[8][256];
+static u8 crc3_row[128];
 
 /* Of a block with fill bits, 40 bits a half, each half four pairs with an octet after each. Table 38: the pairs F0 to F2 of the
    upper half by PRBS[8:0]; of the lower half, which of F3 to F6 PRBS[2:0] leaves as they are, and what it puts in place of one. */
@@ -31,6 +34,16 @@ static void make_rows(u32 (*rows)[256], u32 width, u32 lower) {
     }
 }
 
+/* The remainder of each seven bits. */
+static void make_crc3(void) {
+    for (u32 bits = 0; bits < 128; bits++) {
+        u32 remainder = 0;
+        for (int k = 6; k >= 0; k--)
+            remainder = times_x(3, CRC3_LOWER, remainder ^ (bits >> k & 1) << 2);
+        crc3_row[bits] = (u8)remainder;
+    }
+}
+
 /* Where a pair stands in its half: F2 and F6 before the last octet. */
 static u32 pair_place(u32 pair) {
     return 8 + 10 * (pair < 3 ? 2 - pair : 6 - pair);
@@ -53,6 +66,7 @@ static void make_pairs(void) {
 __attribute__((constructor)) static void make_tables(void) {
     make_rows(crc12_rows, 12, CRC12_LOWER);
     make_rows(fec_rows, 26, FEC_LOWER);
+    make_crc3();
     make_pairs();
 }
 
@@ -73,7 +87,30 @@ static inline u32 next_remainder(const u32 (*rows)[256], u32 width, u32 remainde
         rows[2][x >> 16 & 255] ^ rows[1][x >> 8 & 255] ^ rows[0][x & 255];
 }
 
+/* CRC-3: modulo x^3+x+1 x^7 is 1, and so x^64 is x. To go on by a word is to go on by one bit, which leaves 71 bits of a group's eight
+   words. These are folded to 64, to five times seven, and to seven. */
+typedef unsigned __int128 sum;
+
+static inline sum with_word(sum before, u64 word) {
+    return before << 1 ^ word;
+}
+
+static inline u32 folded(sum eight) {
+    u64 all = (u64)eight ^ (u64)(eight >> 64) << 1, five = all ^ all >> 35, two = five ^ five >> 7;
+    return crc3_row[(two ^ two >> 14 ^ five >> 28) & 127];
+}
+
+static inline u32 group_parity(const u64 *words) {
+    sum eight = 0;
+    for (int k = 0; k < 8; k++)
+        eight = with_word(eight, words[k]);
+    return folded(eight);
+}
+
+/* Of the modes that have one group of 32 blocks; mode 5 has none. */
 FOR_EACH_MODE u32 next_parity(u8 mode, u32 parity, u64 word) {
+    if (mode == COMMAND)
+        return 0;
     return has_fec(mode) ? next_remainder((const u32(*)[256])fec_rows, 26, parity, word)
                          : next_remainder((const u32(*)[256])crc12_rows, 12, parity, word);
 }
@@ -83,17 +120,35 @@ static inline u32 sync_word(u8 mode, u32 parity, u32 command, u32 mark) {
         return (parity >> 4) << 10 | mark << 9 | (parity & 15) << 5 | 1;
     u32 code = (parity & 0xe00) << 20 | (parity & 0x1c0) << 19 | (parity & 0x38) << 18 | (parity & 7) << 17;
     u32 own = (command & 0x70) << 9 | (command & 8) << 8 | (command & 7) << 5;
+    if (mode == COMMAND)
+        code = (command & 0x70000) << 13 | (command & 0xe000) << 12 | (command & 0x1c00) << 11 | (command & 0x380) << 10;
+    if (mode == CRC3) {
+        code = parity << 29;
+        own = (command & 0x70) << 21 | (command & 14) << 16 | (command & 1) << 11;
+    }
     return code | own | mark << 9 | 0x11111501;
 }
 
+/* The parity that belongs to the multiblock before. */
 static inline u32 parity_in(u8 mode, u32 word) {
     if (has_fec(mode))
         return (word >> 10) << 4 | (word >> 5 & 15);
+    if (mode == CRC3 || mode == COMMAND)
+        return mode == CRC3 ? word >> 29 : 0;
     return (word >> 20 & 0xe00) | (word >> 19 & 0x1c0) | (word >> 18 & 0x38) | (word >> 17 & 7);
 }
 
+/* The parity of the multiblock itself. */
+static inline u32 own_in(u8 mode, u32 word) {
+    return mode == CRC3 ? (word >> 15 & 0x1c0) | (word >> 10 & 0x38) | (word >> 5 & 7) : 0;
+}
+
 static inline u32 command_in(u8 mode, u32 word) {
-    return has_fec(mode) ? 0 : (word >> 9 & 0x70) | (word >> 8 & 8) | (word >> 5 & 7);
+    if (mode == CRC3)
+        return (word >> 21 & 0x70) | (word >> 16 & 14) | (word >> 11 & 1);
+    u32 low = has_fec(mode) ? 0 : (word >> 9 & 0x70) | (word >> 8 & 8) | (word >> 5 & 7);
+    u32 high = (word >> 13 & 0x70000) | (word >> 12 & 0xe000) | (word >> 11 & 0x1c00) | (word >> 10 & 0x380);
+    return mode == COMMAND ? high | low : low;
 }
 
 /* The header of the block whose bit stands highest in `sync`: 01 for 1, 10 for 0. */
@@ -142,6 +197,11 @@ static inline u32 put_four_wide(u8 *lane, u32 sync, const u64 *blocks, u32 fill)
     return fill;
 }
 
+static inline u64 scrambled(u64 user, u64 history) {
+    u64 own = user ^ history << 25 ^ history << 6;
+    return own ^ own >> 39 ^ own >> 58;
+}
+
 FOR_EACH_MODE void send_one(u8 mode, u32 e, struct zaytulobe_sender *state, const u8 *user, u32 command, u8 *lane) {
     u32 last = state->number + 1 == e, parity = 0, fill = state->fill;
     u32 sync = sync_word(mode, state->parity, command, last);
@@ -149,8 +209,7 @@ FOR_EACH_MODE void send_one(u8 mode, u32 e, struct zaytulobe_sender *state, cons
     for (int four = 0; four < 8; four++, user += 32, lane += lane_octets(mode) / 8, sync <<= 4) {
         u64 blocks[4];
         for (int k = 0; k < 4; k++) {
-            u64 own = load(user + 8 * k) ^ history << 25 ^ history << 6;
-            history = blocks[k] = own ^ own >> 39 ^ own >> 58;
+            history = blocks[k] = scrambled(load(user + 8 * k), history);
             parity = next_parity(mode, parity, history);
         }
         if (gap(mode))
@@ -172,6 +231,37 @@ FOR_EACH_MODE void send_all(
     *state = now;
 }
 
+/* With CRC-3 the first three headers of each group carry the remainder of the group before it. */
+static inline void send_groups(u32 e, struct zaytulobe_sender *state, const u8 *user, u32 command, u8 *lane) {
+    u32 last = state->number + 1 == e, parity = state->parity, sync = sync_word(CRC3, 0, command, last);
+    u64 history = state->history;
+    for (int group = 0; group < 4; group++, user += 64, lane += 66, sync <<= 8) {
+        u64 blocks[8];
+        sum eight = 0;
+        for (int k = 0; k < 8; k++) {
+            history = blocks[k] = scrambled(load(user + 8 * k), history);
+            eight = with_word(eight, history);
+        }
+        put_narrow(lane, sync | parity << 29, blocks);
+        put_narrow(lane + 33, sync << 4, blocks + 4);
+        parity = folded(eight);
+    }
+    state->history = history & ((1ul << 58) - 1);
+    state->parity = parity;
+    state->number = last ? 0 : state->number + 1;
+}
+
+APART void send_crc3(u32 e, struct zaytulobe_sender *state, const u8 *user, const u32 *commands, size count, u8 *lane) {
+    struct zaytulobe_sender now = *state;
+    for (size k = 0; k < count; k++)
+        send_groups(e, &now, user + USER_OCTETS * k, commands[k], lane + lane_octets(CRC3) * k);
+    *state = now;
+}
+
+APART void send_command(u32 e, struct zaytulobe_sender *state, const u8 *user, const u32 *commands, size count, u8 *lane) {
+    send_all(COMMAND, e, state, user, commands, count, lane);
+}
+
 SEND(tuned_send) {
     struct zaytulobe_sent sent = {0, 0, state};
     sent.refusal = send_refusal(mode, e, state, user_length, commands, commands_length, lane_length);
@@ -181,7 +271,9 @@ SEND(tuned_send) {
     case CRC12: send_all(CRC12, e, &sent.state, user, commands, commands_length, lane); break;
     case FEC: send_all(FEC, e, &sent.state, user, commands, commands_length, lane); break;
     case CRC12_80: send_all(CRC12_80, e, &sent.state, user, commands, commands_length, lane); break;
-    default: send_all(FEC_80, e, &sent.state, user, commands, commands_length, lane);
+    case FEC_80: send_all(FEC_80, e, &sent.state, user, commands, commands_length, lane); break;
+    case CRC3: send_crc3(e, &sent.state, user, commands, commands_length, lane); break;
+    default: send_command(e, &sent.state, user, commands, commands_length, lane);
     }
     sent.count = commands_length;
     return sent;
@@ -264,8 +356,11 @@ static inline void flip(u64 *words, u32 place, u32 pattern) {
             words[at / 64] ^= 1ul << (63 - at % 64);
 }
 
-FOR_EACH_MODE u32 remainder_of(u8 mode, const u64 *words) {
+/* Of all groups, the first one's remainder highest. */
+FOR_EACH_MODE u32 parity_of(u8 mode, const u64 *words) {
     u32 parity = 0;
+    if (mode == CRC3)
+        return group_parity(words) << 9 | group_parity(words + 8) << 6 | group_parity(words + 16) << 3 | group_parity(words + 24);
     for (int k = 0; k < BLOCKS; k++)
         parity = next_parity(mode, parity, words[k]);
     return parity;
@@ -281,7 +376,7 @@ struct outputs {
 /* The waiting multiblock stays in 32 words from turn to turn; two sets of words change places. */
 FOR_EACH_MODE size receive_all(u8 mode, struct zaytulobe_receiver *state, const u8 *lane, size count, struct outputs out) {
     u64 both[2][BLOCKS], *words = both[0], *next = both[1], history = state->history;
-    u32 command = state->command, trusted = state->trusted;
+    u32 command = state->command, trusted = state->trusted, own = state->own;
     u8 invalid = state->invalid;
     size released = 0;
     if (state->waiting)
@@ -291,7 +386,9 @@ FOR_EACH_MODE size receive_all(u8 mode, struct zaytulobe_receiver *state, const 
         struct headers headers = hear(mode, lane, next);
         u32 sync = ~headers.first & headers.second, equal = ~(headers.first ^ headers.second);
         if (turn || state->waiting) {
-            u32 difference = remainder_of(mode, words) ^ parity_in(mode, sync), status = ZAYTULOBE_AGREES;
+            u32 difference = parity_of(mode, words) ^ parity_in(mode, sync), status = ZAYTULOBE_AGREES;
+            if (mode == CRC3)
+                difference ^= own << 3;
             u16 place = 0, pattern = 0;
             if (difference) {
                 status = has_fec(mode) && trap(difference, &place, &pattern) ? ZAYTULOBE_REPAIRED : ZAYTULOBE_FAILED;
@@ -310,7 +407,8 @@ FOR_EACH_MODE size receive_all(u8 mode, struct zaytulobe_receiver *state, const 
             out.invalid[released++] = invalid;
             trusted = status != ZAYTULOBE_FAILED;
         }
-        command = command_in(mode, sync) + (command_in(mode, equal) ? ZAYTULOBE_COMMAND_FLAG : 0);
+        command = command_in(mode, sync) + (command_in(mode, equal) ? (u32)ZAYTULOBE_COMMAND_FLAG(mode) : 0);
+        own = own_in(mode, sync);
         invalid = (u8)__builtin_popcount(equal);
         u64 *were = words;
         words = next;
@@ -321,9 +419,18 @@ FOR_EACH_MODE size receive_all(u8 mode, struct zaytulobe_receiver *state, const 
     state->history = history & ((1ul << 58) - 1);
     state->command = command;
     state->invalid = invalid;
+    state->own = (u16)own;
     state->trusted = (u8)trusted;
     state->waiting = 1;
     return released;
+}
+
+APART size receive_crc3(struct zaytulobe_receiver *state, const u8 *lane, size count, struct outputs out) {
+    return receive_all(CRC3, state, lane, count, out);
+}
+
+APART size receive_command(struct zaytulobe_receiver *state, const u8 *lane, size count, struct outputs out) {
+    return receive_all(COMMAND, state, lane, count, out);
 }
 
 RECEIVE(tuned_receive) {
@@ -338,7 +445,9 @@ RECEIVE(tuned_receive) {
     case CRC12: received.count = receive_all(CRC12, &received.state, lane, count, out); break;
     case FEC: received.count = receive_all(FEC, &received.state, lane, count, out); break;
     case CRC12_80: received.count = receive_all(CRC12_80, &received.state, lane, count, out); break;
-    default: received.count = receive_all(FEC_80, &received.state, lane, count, out);
+    case FEC_80: received.count = receive_all(FEC_80, &received.state, lane, count, out); break;
+    case CRC3: received.count = receive_crc3(&received.state, lane, count, out); break;
+    default: received.count = receive_command(&received.state, lane, count, out);
     }
     return received;
 }
