@@ -1,9 +1,9 @@
 /* driver FIRST LAST: prints a line for the seeded case of each seed from FIRST to LAST, worked by the proved library. The
    second program prints the same lines by `second bulk FIRST LAST`: second/src/bulk.rs says which case a seed is, and
-   lanes.rs, damaged.rs, locks.rs, listed.rs and calls.rs what is drawn and what a line holds. Lanes and damaged lanes are
-   worked again with every cut into two calls, and damaged lanes with every fill bit flipped; where that makes a difference the
-   line says so, and then no longer agrees. */
-#include "calls.h"
+   lanes.rs, damaged.rs, locks.rs, listed.rs, calls.rs and messaged.rs what is drawn and what a line holds. Lanes and damaged
+   lanes are worked again with every cut into two calls, and damaged lanes with every fill bit flipped; where that makes a
+   difference the line says so, and then no longer agrees. */
+#include "messages.h"
 
 u64 strtoul(const char *text, char **end, int base);
 
@@ -169,75 +169,24 @@ static void lock_line(u64 seed) {
     print_lock(lock);
 }
 
-static u8 capture[HEAD + MOST_LANE_OCTETS * MOST + 300], text[4096];
-
-static void draw_other_lane(void) {
-    size octets = lane_octets(drawn.mode);
-    if (draw(32) == 0) {
-        drawn.lane_length = octets * (most_multiblocks(drawn.mode) - 1 + draw(3));
-        draw_octets(lane, drawn.lane_length);
-    }
-    if (draw(4) == 0)
-        drawn.lane_length = octets * draw(drawn.lane_length / octets + 1);
-}
-
-static void put_extent(size e) {
-    capture[5] = (u8)(e / 256);
-    capture[6] = (u8)(e % 256);
-}
-
-static size put_capture(void) {
-    size length = drawn.lane_length;
-    memset(capture, 0, HEAD);
-    capture[3] = 3;
-    capture[4] = drawn.mode;
-    put_extent(drawn.e);
-    capture[8] = (u8)(length >> 16);
-    capture[9] = (u8)(length >> 8);
-    capture[10] = (u8)length;
-    for (size k = 0; k < length; k++)
-        capture[HEAD + k] = lane[k];
-    return HEAD + length;
-}
-
-static size draw_capture(void) {
-    static const u16 extents[4] = {0, 1, 256, 257};
-    draw_damaged();
-    draw_other_lane();
-    size form = draw(12), place;
-    if (form == 6) {
-        size lost = draw(lane_octets(drawn.mode));
-        drawn.lane_length -= lost < drawn.lane_length ? lost : drawn.lane_length;
-    }
-    size length = put_capture();
-    switch (form) {
-    case 0: capture[4] = (u8)draw(256); break;
-    case 1: put_extent(extents[draw(4)]); break;
-    case 2: put_extent(draw(65536)); break;
-    case 3: place = draw(HEAD); capture[place] = (u8)draw(256); break;
-    case 4: length = draw(length + 1); break;
-    case 5: place = length; length += 1 + draw(300); draw_octets(capture + place, length - place); break;
-    case 7: capture[4] = (u8)draw(MODES + 1); break;
-    }
-    return length;
-}
-
 static void listing_line(u64 seed) {
+    draw_damaged();
     size length = draw_capture();
-    size room = draw(8) == 0 ? draw(64) : sizeof text;
-    memset(text, BEFORE, room);
-    struct zaytulobe_listed listed = zaytulobe_listing(capture, length, text, room);
-    printf("%lu listing %lu %d %lu %016lx\n", seed, length, listed.refusal, listed.count, digest_of(text, room));
+    size room = draw(8) == 0 ? draw(64) : LISTING_ROOM;
+    printf("%lu listing %lu", seed, length);
+    print_text(zaytulobe_listing, length, room);
+    printf("\n");
 }
 
 static void line(u64 seed) {
     seed_generator(seed);
-    switch (seed % 5) {
+    switch (seed % 6) {
     case 0: sent_line(seed); break;
     case 1: damaged_line(seed); break;
     case 2: lock_line(seed); break;
     case 3: listing_line(seed); break;
-    default: any_call(seed);
+    case 4: any_call(seed); break;
+    default: messages_line(seed);
     }
 }
 

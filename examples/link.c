@@ -1,7 +1,8 @@
 /* Sends four multiblocks in FEC mode, flips a burst of nine lane bits, the first of them in a header, receives what is left,
-   and prints what came back; then steps the locks by the lane's headers, and lists the lane as a capture. At last it sends and
+   and prints what came back; then steps the locks by the lane's headers, and lists the lane as a capture. Then it sends and
    receives the same octets with blocks of 80 bits, one multiblock a call: the state takes the register of the fill bits from each
-   call to the next. Compiles as C and as C++. */
+   call to the next. At last it sends them with a message in the stand-alone command channel, and reads it from what came back.
+   Compiles as C and as C++. */
 #include "zaytulobe.h"
 
 #ifdef __cplusplus
@@ -88,6 +89,28 @@ static void send_and_receive_80(void) {
     }
 }
 
+static void send_and_read_message(void) {
+    enum { COMMAND = ZAYTULOBE_COMMAND, GAIN = 16 };
+    const zaytulobe_u8 gain[3] = {3, 17, 9};
+    zaytulobe_u8 statuses[MULTIBLOCKS], invalid[MULTIBLOCKS];
+    zaytulobe_u32 commands[MULTIBLOCKS] = {0};
+    zaytulobe_u16 places[MULTIBLOCKS], patterns[MULTIBLOCKS];
+    struct zaytulobe_written written = zaytulobe_write_message(COMMAND, GAIN, gain, 3, commands, MULTIBLOCKS);
+    printf("message: refusal %d, %lu commands, %05X and %05X\n", written.refusal, written.count, commands[0], commands[1]);
+    zaytulobe_send(COMMAND, E, zaytulobe_fresh_sender(), user, USER, commands, MULTIBLOCKS, lane, LANE);
+    struct zaytulobe_received received = zaytulobe_receive(
+        COMMAND, zaytulobe_fresh_receiver(), lane, LANE, octets, USER, statuses, MULTIBLOCKS, commands, MULTIBLOCKS,
+        places, MULTIBLOCKS, patterns, MULTIBLOCKS, invalid, MULTIBLOCKS);
+    struct zaytulobe_event event = zaytulobe_read_event(COMMAND, commands, received.count, 0);
+    for (; event.kind == ZAYTULOBE_MESSAGE; event = zaytulobe_read_event(COMMAND, commands, received.count, event.next)) {
+        printf("word %lu: code %d", event.begin, event.code);
+        for (zaytulobe_size k = 0; k < event.count; k++)
+            printf(k == 0 ? ", payload %d" : " %d", event.words[k]);
+        printf("\n");
+    }
+    printf("word %lu: %s\n", event.begin, event.kind == ZAYTULOBE_NOTHING ? "nothing more" : "no message");
+}
+
 int main(void) {
     send();
     damage();
@@ -95,5 +118,6 @@ int main(void) {
     lock();
     list();
     send_and_receive_80();
+    send_and_read_message();
     return 0;
 }

@@ -1,8 +1,8 @@
 /*
  * One lane of the 64B/66B and 64B/80B link layers of JESD204C, with the sync words of CRC-12, FEC, CRC-3 or the stand-alone
- * command channel: sender, receiver, lock machines, longest run and listing. The functions are proved: for every value of every
- * argument each gives the one answer that its contract states (crates/zaytulobe/src, docs/CONTRACTS.md). For x86-64 Linux; for C
- * from C11 on, and C++ from C++11 on.
+ * command channel: sender, receiver, lock machines, longest run, messages of the command channel, and listings. The functions are
+ * proved: for every value of every argument each gives the one answer that its contract states (crates/zaytulobe/src,
+ * docs/CONTRACTS.md). For x86-64 Linux; for C from C11 on, and C++ from C++11 on.
  *
  * That this header is the library's is checked: the assertions at its end say where each field stands, to whoever compiles it,
  * and the gate runs C programs that show the library to read each field there (runs/layout.c) and to have these constants
@@ -14,8 +14,9 @@
  *   thread touches anything lent while the call lasts.
  * All else may be any value: a mode, a number or a state that doesn't fit is refused.
  *
- * A call is refused by a number, the lowest that applies. A refused call answers its number, count 0 and the state given,
- * and writes nothing. Empty input that isn't refused writes nothing and answers the state given.
+ * A call is refused by a number, the lowest that applies; but 8 is asked before all others, and 7 after them. A refused call
+ * answers its number, count 0 and the state given, and writes nothing. Empty input that isn't refused writes nothing and answers
+ * the state given.
  */
 #ifndef ZAYTULOBE_H
 #define ZAYTULOBE_H
@@ -42,16 +43,19 @@ enum zaytulobe_mode {
 
 enum zaytulobe_refusal {
     ZAYTULOBE_ACCEPTED = 0,
-    ZAYTULOBE_REFUSED_MODE = 1,     /* the mode is above 5 */
+    ZAYTULOBE_REFUSED_MODE = 1,     /* the mode is above 5; of messages also 1 and 3, which have no command channel */
     ZAYTULOBE_REFUSED_E = 2,        /* E is outside 1 to 256 */
     ZAYTULOBE_REFUSED_STATE = 3,    /* a field of the state is out of range */
     ZAYTULOBE_REFUSED_LENGTH = 4,   /* user octets are no multiple of 256, lane octets none of 264, or of 320 in modes 2 and 3;
                                        of the longest run, octets aren't 256 for each status */
     ZAYTULOBE_REFUSED_COUNT = 5,    /* more than 240 multiblocks in one call, or 200 in modes 2 and 3 */
-    ZAYTULOBE_REFUSED_COMMANDS = 6, /* there isn't one command for each multiblock, or one is too high for the mode */
+    ZAYTULOBE_REFUSED_COMMANDS = 6, /* there isn't one command for each multiblock, or one is too high for the mode; of a message
+                                       to be written, a payload word is above 31, or there are fewer than its code asks */
     ZAYTULOBE_REFUSED_ROOM = 7,     /* a buffer lent to be written is too short for what would be written */
     ZAYTULOBE_REFUSED_CAPTURE = 8,  /* a capture hasn't the form of one, or is too long for its mode */
-    ZAYTULOBE_REFUSED_HEADER = 9    /* a header value is above 3 */
+    ZAYTULOBE_REFUSED_HEADER = 9,   /* a header value is above 3 */
+    ZAYTULOBE_REFUSED_LONG = 10,    /* a message has more payload words than its code allows, or than 7 */
+    ZAYTULOBE_REFUSED_CODE = 11     /* a function code isn't defined: 7 to 15, or above 31 */
 };
 
 /* The status of a released multiblock is one of the first three, with the fourth added after an untrusted history. In mode 5,
@@ -68,6 +72,15 @@ enum zaytulobe_phase {
     ZAYTULOBE_HUNTING = 0,
     ZAYTULOBE_FOLLOWING = 1,
     ZAYTULOBE_LOCKED = 2
+};
+
+/* What a list of commands has next. */
+enum zaytulobe_event_kind {
+    ZAYTULOBE_NOTHING = 0,  /* no more, up to the end of the list */
+    ZAYTULOBE_MESSAGE = 1,  /* a whole message */
+    ZAYTULOBE_CUT = 2,      /* a message that has fewer words than its code asks, or that a spoilt command ended; or, with nothing
+                               open, a spoilt command */
+    ZAYTULOBE_UNDEFINED = 3 /* a header whose function code isn't defined */
 };
 
 /* Whether a mode has FEC sync words, and whether it has blocks of 80 bits. As an int a mode compares with these names, of whatever
@@ -91,6 +104,11 @@ enum zaytulobe_phase {
 #define ZAYTULOBE_MOST_FILL(mode) (ZAYTULOBE_HAS_80(mode) ? 131070 : 0)
 #define ZAYTULOBE_MOST_OWN(mode) ((int)(mode) == ZAYTULOBE_CRC3 ? 511 : 0)
 
+/* The most payload words of a message; the words of a command by mode, none with FEC. A word has six bits: 0 for a header or 1 for
+   payload, then five bits. A command has its words from the highest bits down, and in bit 0 their parity. */
+#define ZAYTULOBE_MOST_WORDS 7
+#define ZAYTULOBE_COMMAND_WORDS(mode) (ZAYTULOBE_HAS_FEC(mode) ? 0 : (int)(mode) == ZAYTULOBE_COMMAND ? 3 : 1)
+
 /* E, the multiblocks of an extended multiblock. */
 #define ZAYTULOBE_LEAST_E 1
 #define ZAYTULOBE_MOST_E 256
@@ -98,11 +116,13 @@ enum zaytulobe_phase {
 /* Octets of a capture before those of its lane; by its mode, of the longest capture that is listed, 63,371 or 64,011, and so of the
    longest in any mode; and of a text: one that is lent so much is never refused by 7. A line for a release has at most 15 octets.
    In blocks of 66 bits the first line has at most 18, and 239 are released at most: 18 + 239 * 15 = 3,603. In modes 2 and 3 it is
-   21 + 199 * 15 = 3,006. */
+   21 + 199 * 15 = 3,006. Of a text of messages: its first line has at most 21 octets, and each word of the commands adds at most
+   17; in mode 5 they are three of each: 21 + 17 * 717 = 12,210. */
 #define ZAYTULOBE_CAPTURE_HEAD 11
 #define ZAYTULOBE_LONGEST_CAPTURE(mode) (ZAYTULOBE_CAPTURE_HEAD + ZAYTULOBE_LANE_OCTETS(mode) * ZAYTULOBE_MOST_MULTIBLOCKS(mode))
 #define ZAYTULOBE_LONGEST_OF_ALL ZAYTULOBE_LONGEST_CAPTURE(ZAYTULOBE_FEC_80)
 #define ZAYTULOBE_LONGEST_TEXT 3603
+#define ZAYTULOBE_LONGEST_MESSAGES 12210
 
 /* The last 58 bits sent, the latest in bit 0; the parity that goes with the next sync word: that of the last multiblock, 12 bits
    with CRC-12 and 26 with FEC; in mode 4 that of its last eight blocks, 3 bits; 0 in mode 5; the number of the next multiblock in
@@ -190,6 +210,26 @@ struct zaytulobe_listed {
     zaytulobe_size count;
 };
 
+/* A refusal, or 0 with the commands written. */
+struct zaytulobe_written {
+    zaytulobe_u8 refusal;
+    zaytulobe_size count;
+};
+
+/* A refusal, or 0 with what comes next in a list of commands: its kind; its function code, if it is a message or undefined; the
+   payload words of a message, those past `count` 0; how many these are, and of a cut how many words of six bits were taken, the
+   header among them; the word at which it begins, counted from the list's first: of a message its header, of nothing the list's
+   end; the word to go on from. What a kind doesn't have is 0. */
+struct zaytulobe_event {
+    zaytulobe_u8 refusal;
+    zaytulobe_u8 kind;
+    zaytulobe_u8 code;
+    zaytulobe_u8 words[ZAYTULOBE_MOST_WORDS];
+    zaytulobe_size count;
+    zaytulobe_size begin;
+    zaytulobe_size next;
+};
+
 /* The state of a sender that has sent nothing: all 0. */
 struct zaytulobe_sender zaytulobe_fresh_sender(void);
 
@@ -235,6 +275,30 @@ struct zaytulobe_stepped zaytulobe_lock_step(
 /* The listing of a capture: its text goes over the start of `text`, and the rest keeps its values. Refused by 8 first, then
    by 1, 2, 4 or 7; no refusal is written as text. */
 struct zaytulobe_listed zaytulobe_listing(
+    const zaytulobe_u8 *capture, zaytulobe_size capture_length,
+    zaytulobe_u8 *text, zaytulobe_size text_length);
+
+/* Writes a message: its header, its payload words, each 0 to 31, and in mode 5 idle headers that fill its last command. The
+   commands go over the start of the list, and the rest of it keeps its values. Codes 0 to 6 have 0, 5, 2, 4, 5, 0 and 0 words;
+   codes 16 to 31, which the user defines, 0 to 7. Refused by 1, 6, 10, 11 or 7, asked in this order. */
+struct zaytulobe_written zaytulobe_write_message(
+    zaytulobe_u8 mode, zaytulobe_u8 code,
+    const zaytulobe_u8 *payload, zaytulobe_size payload_length,
+    zaytulobe_u32 *commands, zaytulobe_size commands_length);
+
+/* What a list of commands, as the receiver releases them, has at word `from` or after it; words are counted through all commands.
+   A command with the receiver's flag, or with a wrong parity bit, is spoilt: it ends what is open, and none of its words is read.
+   Payload with nothing open is passed over, and so is in mode 5 an idle header that isn't the first word of its command. A list is
+   read from word 0 on by calls that go on from `next` each, until there is nothing. `from` may be any number: at the end of the
+   list or past it there is nothing. Refused by 1 or 6, and then it answers nothing, with `from` for both places. */
+struct zaytulobe_event zaytulobe_read_event(
+    zaytulobe_u8 mode, const zaytulobe_u32 *commands, zaytulobe_size commands_length, zaytulobe_size from);
+
+/* The messages of a capture: the first line of its listing; then for each event of its released commands a line, which begins with
+   the number of the multiblock in which the event begins: `K message CODE WORDS...`, `K cut WORDS` or `K undefined CODE`. The text
+   goes over the start of `text`, and the rest keeps its values. Refused by 8 first, then by 1, 2, 4 or 7; no refusal is written as
+   text. */
+struct zaytulobe_listed zaytulobe_messages(
     const zaytulobe_u8 *capture, zaytulobe_size capture_length,
     zaytulobe_u8 *text, zaytulobe_size text_length);
 
@@ -312,6 +376,19 @@ ZAYTULOBE_FIELD(stepped, lock, 4, 44);
 ZAYTULOBE_STRUCT(listed, 16);
 ZAYTULOBE_FIELD(listed, refusal, 0, 1);
 ZAYTULOBE_FIELD(listed, count, 8, 8);
+
+ZAYTULOBE_STRUCT(written, 16);
+ZAYTULOBE_FIELD(written, refusal, 0, 1);
+ZAYTULOBE_FIELD(written, count, 8, 8);
+
+ZAYTULOBE_STRUCT(event, 40);
+ZAYTULOBE_FIELD(event, refusal, 0, 1);
+ZAYTULOBE_FIELD(event, kind, 1, 1);
+ZAYTULOBE_FIELD(event, code, 2, 1);
+ZAYTULOBE_FIELD(event, words, 3, 7);
+ZAYTULOBE_FIELD(event, count, 16, 8);
+ZAYTULOBE_FIELD(event, begin, 24, 8);
+ZAYTULOBE_FIELD(event, next, 32, 8);
 
 ZAYTULOBE_ASSERT(sizeof(zaytulobe_u16) == 2, "a place and a pattern have two octets each in the library");
 

@@ -1,15 +1,16 @@
-//! `second bulk FIRST LAST`: a line for the case of each seed, which begins with the seed. A seed modulo 5 says what it is
-//! a case of: 0 lanes.rs, 1 damaged.rs, 2 locks.rs, 3 listed.rs, 4 calls.rs.
+//! `second bulk FIRST LAST`: a line for the case of each seed, which begins with the seed. A seed modulo 6 says what it is
+//! a case of: 0 lanes.rs, 1 damaged.rs, 2 locks.rs, 3 listed.rs, 4 calls.rs, 5 messaged.rs.
 
-use crate::{calls, damaged, lanes, listed, locks};
+use crate::{calls, damaged, lanes, listed, locks, messaged};
 
 fn line(seed: u64) -> String {
-    match seed % 5 {
+    match seed % 6 {
         0 => lanes::line(seed),
         1 => damaged::line(seed),
         2 => locks::line(seed),
         3 => listed::line(seed),
-        _ => calls::line(seed),
+        4 => calls::line(seed),
+        _ => messaged::line(seed),
     }
 }
 

@@ -1,11 +1,13 @@
-//! Captures as a user would have them, each with a name. `second captures` prints them all as `second listings` reads
-//! them; `second capture NAME` prints one.
+//! Captures as a user would have them, each with a name. `second captures` prints those that are listed, as `second listings`
+//! reads them; `second capture NAME` prints one of these, or of those that carry messages.
 
 use crate::cases::Input;
+use crate::command::{Channel, Word};
 use crate::damaged::flipped;
 use crate::frame::{fill_places, with_headers};
 use crate::generator::Generator;
-use crate::mode::{row, BLOCKS, DATA_BITS, MODES};
+use crate::message;
+use crate::mode::{row, BLOCKS, DATA_BITS, MODES, USER_OCTETS};
 use crate::sync::Parity;
 
 const CRC12: u8 = 0;
@@ -129,6 +131,58 @@ fn examples() -> Vec<Case> {
         case("failed-crc3", capture(CRC3, 4, &failed_crc3)),
         case("cmd", capture(COMMAND, 4, &lane(4, COMMAND, 4, 5))),
     ]
+}
+
+/// The commands of a message.
+fn message(mode: u8, code: u8, payload: &[u8]) -> Vec<u32> {
+    let mut commands = vec![0; 1 + payload.len()];
+    let written = message::write(mode, code, payload, &mut commands);
+    assert_eq!(written.refusal, 0);
+    commands.truncate(written.count);
+    commands
+}
+
+/// A seeded lane with these commands.
+fn carrying(seed: u64, mode: u8, e: u16, commands: Vec<u32>) -> Vec<u8> {
+    let user = Generator::seeded(seed).draw_octets(USER_OCTETS * commands.len());
+    Input { mode, e: u32::from(e), user, commands }.lane()
+}
+
+/// A gain, as a user may define it: its code and its words.
+const GAIN: u8 = 16;
+const GAIN_WORDS: [u8; 3] = [3, 17, 9];
+
+/// Amid idle headers, in a lane of CRC-12.
+fn gain() -> Case {
+    let idle = vec![0; 2];
+    let commands = [idle.clone(), message(CRC12, GAIN, &GAIN_WORDS), idle].concat();
+    case("gain", capture(CRC12, 4, &carrying(5, CRC12, 4, commands)))
+}
+
+/// Three words a command: an idle one, a gain with padding, a register write that fills its command, a reserved code and its
+/// payload, a register write whose second command has an invalid header, a message of one word, a command with a wrong parity
+/// bit, and one that waits.
+fn gain_of_three() -> Case {
+    let channel = Channel::of(row(COMMAND)).expect("mode 5 has commands");
+    let reserved = [Word::Header(7), Word::Payload(1), Word::Payload(2)];
+    let commands = [
+        vec![0],
+        message(COMMAND, GAIN, &GAIN_WORDS),
+        message(COMMAND, 2, &[1, 5]),
+        vec![channel.command(&reserved)],
+        message(COMMAND, 1, &[0, 2, 8, 20, 6]),
+        message(COMMAND, 31, &[12]),
+        vec![1, 0],
+    ]
+    .concat();
+    let lane = carrying(6, COMMAND, 4, commands);
+    let spoilt = with_headers(row(COMMAND), &lane, &[(BLOCKS * 6 + 9, [true, true])]);
+    case("gain-cmd", capture(COMMAND, 4, &spoilt))
+}
+
+/// Those of `examples/` that carry messages.
+fn with_messages() -> Vec<Case> {
+    vec![gain(), gain_of_three()]
 }
 
 /// Six multiblocks in a mode: clean, cut, and hit in their data or in headers without parity.
@@ -352,6 +406,7 @@ fn too_long() -> Vec<Case> {
     vec![one_more("", CRC12), one_more("", CRC12_80), after, one_more("crc3-", CRC3), one_more("cmd-", COMMAND)]
 }
 
+/// Those that are listed.
 pub fn cases() -> Vec<Case> {
     let with_parity = [CRC12, FEC, CRC12_80, FEC_80, CRC3];
     let of_modes = with_parity.into_iter().flat_map(|mode| [of_mode(mode), of_parity(mode), edges(mode)].concat());
@@ -364,7 +419,8 @@ pub fn cases() -> Vec<Case> {
 
 /// The capture of that name, if there is one.
 pub fn named(name: &str) -> Option<Vec<u8>> {
-    cases().into_iter().find(|case| case.name == name).map(|case| case.capture)
+    let all = with_messages().into_iter().chain(cases());
+    all.into_iter().find(|case| case.name == name).map(|case| case.capture)
 }
 
 #[cfg(test)]
@@ -389,6 +445,24 @@ mod tests {
         let names: HashSet<&str> = ALL.iter().map(|case| case.name.as_str()).collect();
         assert_eq!(names.len(), ALL.len());
         assert_eq!(super::named("clean"), Some(capture_of("clean").to_vec()));
+    }
+
+    #[test]
+    fn those_that_carry_messages() {
+        let text = |name: &str| crate::messages::text(&super::named(name).expect("a capture of that name"));
+        assert_eq!(text("gain"), "crc12 4 8 7\n0 message 0\n1 message 0\n2 message 16 3 17 9\n6 message 0\n");
+        let of_three = [
+            "cmd 4 10 9",
+            "0 message 0",
+            "1 message 16 3 17 9",
+            "3 message 2 1 5",
+            "4 undefined 7",
+            "5 cut 3",
+            "7 message 31 12",
+            "8 cut 0",
+        ];
+        assert_eq!(text("gain-cmd"), of_three.map(|line| format!("{line}\n")).concat());
+        assert!(super::with_messages().iter().all(|case| ALL.iter().all(|other| other.name != case.name)));
     }
 
     #[test]

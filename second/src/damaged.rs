@@ -147,7 +147,7 @@ fn draw_fill(generator: &mut Generator, mode: &Mode, blocks: usize) -> Vec<usize
     frame::fill_places(mode, blocks).into_iter().filter(|_| generator.draw(noise) == 0).collect()
 }
 
-fn damage(generator: &mut Generator, kind: usize, mode: &Mode, multiblocks: usize, lane: Vec<u8>) -> Vec<u8> {
+pub fn damage(generator: &mut Generator, kind: usize, mode: &Mode, multiblocks: usize, lane: Vec<u8>) -> Vec<u8> {
     let lane_bits = mode.multiblock_bits() * multiblocks;
     let blocks = BLOCKS * multiblocks;
     match kind {

@@ -1,9 +1,9 @@
 //! `SEED listing`: the listing of a seeded capture (cases.rs has the generator and the digest).
 //!
-//! Drawn: mode, E and a damaged lane (damaged.rs), of multiblocks of 264 octets or 320. If draw(32) is 0, the lane becomes
-//! 239 + draw(3) multiblocks of octets, 199 + draw(3) in modes 2 and 3, draw(256) each octet. If draw(4) is 0, only its first
-//! draw(M + 1) multiblocks are kept, of M. If draw(12) is 6, it loses its last draw(264 or 320) octets, or all. This is made
-//! a capture; and then, where draw(12) was
+//! Drawn: mode, E and a damaged lane (damaged.rs), of multiblocks of 264 octets or 320; and a capture.
+//! A capture of a lane: if draw(32) is 0, the lane becomes 239 + draw(3) multiblocks of octets, 199 + draw(3) in modes 2 and 3,
+//! draw(256) each octet. If draw(4) is 0, only its first draw(M + 1) multiblocks are kept, of M. If draw(12) is 6, it loses
+//! its last draw(264 or 320) octets, or all. This is made a capture; and then, where draw(12) was
 //!   0  the mode becomes draw(256)
 //!   1  E becomes [0, 1, 256, 257][draw(4)]
 //!   2  E becomes draw(65536)
@@ -37,17 +37,17 @@ fn draw_lane(generator: &mut Generator, mode: &Mode, damaged: Vec<u8>) -> Vec<u8
     lane
 }
 
-fn draw_capture(generator: &mut Generator) -> Vec<u8> {
-    let case = damaged::draw_case(generator);
-    let mode = row(case.input.mode);
-    let mut lane = draw_lane(generator, mode, case.lane);
+/// A capture of a lane, or of another instead of it.
+pub fn draw_capture(generator: &mut Generator, number: u8, e: u32, lane: Vec<u8>) -> Vec<u8> {
+    let mode = row(number);
+    let mut lane = draw_lane(generator, mode, lane);
     let form = generator.draw(12);
     if form == 6 {
         lane.truncate(lane.len().saturating_sub(generator.draw(mode.lane_octets())));
     }
-    let of_mode = |mode: u8| capture(mode, case.input.e as u16, &lane);
-    let of_extent = |e: usize| capture(case.input.mode, e as u16, &lane);
-    let mut whole = of_mode(case.input.mode);
+    let of_mode = |mode: u8| capture(mode, e as u16, &lane);
+    let of_extent = |e: usize| capture(number, e as u16, &lane);
+    let mut whole = of_mode(number);
     match form {
         0 => of_mode(generator.draw_octet()),
         1 => of_extent(generator.one_of(&[0, 1, 256, 257])),
@@ -70,33 +70,53 @@ fn draw_capture(generator: &mut Generator) -> Vec<u8> {
     }
 }
 
-/// The refusal, the octets of text, and the text lent at exit.
-fn list(capture: &[u8], room: usize) -> (u8, usize, Vec<u8>) {
-    let mut text = vec![BEFORE; room];
-    match listing::lines(capture) {
-        Err(refusal) => (refusal, 0, text),
-        Ok(lines) => {
-            let listing: String = lines.iter().map(|line| format!("{line}\n")).collect();
-            if listing.len() > room {
-                return (7, 0, text);
-            }
-            text[..listing.len()].copy_from_slice(listing.as_bytes());
-            (0, listing.len(), text)
+/// What a call answers that writes lines to a text.
+pub struct Answer {
+    pub refusal: u8,
+    /// Octets written.
+    pub count: usize,
+    /// What was lent, at exit.
+    text: Vec<u8>,
+}
+
+impl Answer {
+    fn refused(refusal: u8, room: usize) -> Answer {
+        Answer { refusal, count: 0, text: vec![BEFORE; room] }
+    }
+
+    /// That of a call with so much room, by the lines of its capture or the number by which that is refused.
+    pub fn of(lines: &Result<Vec<String>, u8>, room: usize) -> Answer {
+        let lines = match lines {
+            Ok(lines) => lines,
+            Err(refusal) => return Answer::refused(*refusal, room),
+        };
+        let octets: Vec<u8> = lines.iter().flat_map(|line| format!("{line}\n").into_bytes()).collect();
+        if octets.len() > room {
+            return Answer::refused(7, room);
         }
+        let mut text = vec![BEFORE; room];
+        text[..octets.len()].copy_from_slice(&octets);
+        Answer { refusal: 0, count: octets.len(), text }
+    }
+
+    /// `REFUSAL COUNT DIGEST`.
+    pub fn printed(&self) -> String {
+        format!("{} {} {}", self.refusal, self.count, Digest::of(&self.text).hexadecimal())
     }
 }
 
-fn outcome(seed: u64) -> (usize, u8, usize, Vec<u8>) {
+/// The length of the capture, and what comes of its listing.
+fn outcome(seed: u64) -> (usize, Answer) {
     let mut generator = Generator::seeded(seed);
-    let capture = draw_capture(&mut generator);
+    let case = damaged::draw_case(&mut generator);
+    let capture = draw_capture(&mut generator, case.input.mode, case.input.e, case.lane);
     let room = if generator.draw(8) == 0 { generator.draw(64) } else { ROOM };
-    let (refusal, count, text) = list(&capture, room);
-    (capture.len(), refusal, count, text)
+    (capture.len(), Answer::of(&listing::lines(&capture), room))
 }
 
 pub fn line(seed: u64) -> String {
-    let (length, refusal, count, text) = outcome(seed);
-    format!("{seed} listing {length} {refusal} {count} {}", Digest::of(&text).hexadecimal())
+    let (length, answer) = outcome(seed);
+    format!("{seed} listing {length} {}", answer.printed())
 }
 
 #[cfg(test)]
@@ -105,8 +125,8 @@ mod tests {
 
     #[test]
     fn every_refusal_and_the_longest_occur() {
-        let outcomes: Vec<(usize, u8, usize)> =
-            (1..=1500).map(outcome).map(|(length, refusal, count, _)| (length, refusal, count)).collect();
+        let outcomes: Vec<(usize, u8)> =
+            (1..=1500).map(outcome).map(|(length, answer)| (length, answer.refusal)).collect();
         for refusal in [0, 1, 2, 4, 7, 8] {
             assert!(outcomes.iter().filter(|outcome| outcome.1 == refusal).count() > 9, "refusal {refusal}");
         }

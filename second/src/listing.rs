@@ -28,29 +28,49 @@ fn sections(capture: &[u8]) -> Option<([u8; 3], &[u8])> {
     fits.then_some((settings, lane))
 }
 
-/// The lines of a listing, or the number by which the capture is refused.
-pub fn lines(capture: &[u8]) -> Result<Vec<String>, u8> {
+/// What a fresh receiver makes of a capture's lane.
+pub struct Decoded {
+    /// The first line: the mode's name, E, and multiblocks received and released.
+    pub head: String,
+    pub mode: u8,
+    pub count: usize,
+    pub released: Lent,
+}
+
+/// A capture decoded, if its mode is one of those that are asked for, or the number by which it is refused.
+pub fn decoded(capture: &[u8], asked_for: fn(&Mode) -> bool) -> Result<Decoded, u8> {
     let ([octet, e_high, e_low], lane) = sections(capture).ok_or(8)?;
-    let mode: &Mode = mode(octet).ok_or(1)?;
+    let mode = mode(octet).filter(|mode| asked_for(mode)).ok_or(1)?;
     let e = u16::from_be_bytes([e_high, e_low]);
     if !is_extent(u32::from(e)) {
         return Err(2);
     }
     let multiblocks = lane.len() / mode.lane_octets();
-    let mut lent = Lent::room_for(multiblocks);
-    let received = receive(octet, Receiver::fresh(), lane, &mut lent);
+    let mut released = Lent::room_for(multiblocks);
+    let received = receive(octet, Receiver::fresh(), lane, &mut released);
     if received.refusal != 0 {
         return Err(received.refusal);
     }
-    let head = format!("{} {e} {multiblocks} {}", mode.name, received.count);
-    let line = |k: usize| format!("{k} {} {} {}", lent.statuses[k], lent.places[k], lent.patterns[k]);
-    Ok([head].into_iter().chain((0..received.count).map(line)).collect())
+    let count = received.count;
+    Ok(Decoded { head: format!("{} {e} {multiblocks} {count}", mode.name), mode: octet, count, released })
+}
+
+/// The lines of a listing, or the number by which the capture is refused.
+pub fn lines(capture: &[u8]) -> Result<Vec<String>, u8> {
+    let Decoded { head, count, released, .. } = decoded(capture, |_| true)?;
+    let line = |k: usize| format!("{k} {} {} {}", released.statuses[k], released.places[k], released.patterns[k]);
+    Ok([head].into_iter().chain((0..count).map(line)).collect())
+}
+
+/// What a program prints of a capture: its lines, or the number by which it is refused.
+pub fn printed(lines: Result<Vec<String>, u8>) -> String {
+    let lines = lines.unwrap_or_else(|refusal| vec![format!("refused {refusal}")]);
+    lines.iter().map(|line| format!("{line}\n")).collect()
 }
 
 /// What `lanelist` prints of a capture.
 pub fn listing(capture: &[u8]) -> String {
-    let lines = lines(capture).unwrap_or_else(|refusal| vec![format!("refused {refusal}")]);
-    lines.iter().map(|line| format!("{line}\n")).collect()
+    printed(lines(capture))
 }
 
 /// The listings of named captures, or nothing if the last one is cut short.

@@ -12,3 +12,4 @@ pub mod Octets
 pub mod WordLists
 pub mod Writing
 pub mod Refusals
+pub mod Bounds

@@ -1,7 +1,8 @@
-// Octets read and written as bits, most significant bit first: document 01, "From octets to lane bits".
+// Octets read and written as bits, most significant bit first: document 01, "From octets to lane bits"; and numbers held to a bound.
 ghost use mathlib.Core.Path.{_≡_};
 ghost use Prim.Native.Nat.{_+_, _*_, _≤_, _<_};
 ghost use lib.ListN.{length, getD};
+ghost use Rattle.bits.specs.Bounds.{allBelow};
 ghost use Rattle.bits.specs.Order.{bitAt, number, digit, octetsOf, laidAt};
 
 fn wide(octet: u8) -> u64
@@ -94,4 +95,18 @@ pub fn put_word(out: &mut [u8], at: usize, word: u64)
         return;
     }
     put_whole(out, at, word);
+}
+
+// Whether each number is below a bound.
+pub fn all_below(bound: u32, numbers: &[u32]) -> bool
+    ensures { λ r. ⌜ r ≡ allBelow bound (now (numbers .entry)) ⌝ }
+{
+    let mut i = 0;
+    while i < numbers.len() {
+        if numbers[i] >= bound {
+            return false;
+        }
+        i += 1;
+    }
+    true
 }

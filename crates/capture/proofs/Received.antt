@@ -1,6 +1,6 @@
 -- What a fresh receiver's lists say of a lane: the text made of them is the lane's, and so is the listing of a capture. Document 01, "Capture and
 -- listing". Assumes nothing.
-use mathlib.Core.Path.{_≡_, refl, sym, ap, _∙_}
+use mathlib.Core.Path.{_≡_, sym, ap, _∙_}
 use mathlib.Core.Bool.{true}
 use mathlib.Core.List.{List}
 use Prim.Native.Nat.{ℕ, _-_, _*_, _/_, _%_, _≤_}
@@ -23,11 +23,11 @@ use Rattle.receiver.specs.Entry.{done as kept}
 use Rattle.receiver.proofs.Buffers.{column-length}
 use Rattle.receiver.proofs.Afresh.{all-received, all-but-one}
 use Rattle.text.specs.Writing.{done, roomOver, written}
-use Rattle.text.proofs.Refusals.{refused, answered, taken}
+use Rattle.text.proofs.Refusals.{taken}
 use Rattle.capture.specs.Form.{modeOf, extentOf, laneOf, refusalOf}
 use Rattle.capture.specs.Listing.{receivedIn, releasesOf, laneText, listingOf, listed}
 use Rattle.capture.specs.inner.Lists.{Lists}
-use Rattle.capture.proofs.Refusals.{still-refused, not-yet-refused}
+use Rattle.capture.proofs.Answers.{is-refused, is-written}
 
 -- ---- what is received of a lane
 
@@ -60,11 +60,12 @@ module _ (mode : ℕ) (lane : List ℕ) (is-known : known mode ≡ true) (whole 
   begins f old new h =
       rw (h, number, ← column-length f (releasesOf (row mode) lane)) (taken-back (column f (releasesOf (row mode) lane)) old)
 
-  pub lists : Lists (releasesOf (row mode) lane) (r .count) s′ p′ q′
+  pub lists : Lists (releasesOf (row mode) lane) (r .count) s′ c′ p′ q′
   lists = record {
     few = omega (arith, number, released-are (row mode) lane, within);
     number = number;
     statuses = begins (λ (x : Release). x .status) s s′ (unfold releasesOf in ap (λ (x : Kept). x .statuses) is-run);
+    commands = begins (λ (x : Release). x .command) c c′ (unfold releasesOf in ap (λ (x : Kept). x .commands) is-run);
     places = begins (λ (x : Release). x .place) p p′ (unfold releasesOf in ap (λ (x : Kept). x .places) is-run);
     patterns = begins (λ (x : Release). x .pattern) q q′ (unfold releasesOf in ap (λ (x : Kept). x .patterns) is-run);
   }
@@ -74,10 +75,10 @@ module _ (mode : ℕ) (lane : List ℕ) (is-known : known mode ≡ true) (whole 
 as-many : (f g : Release → ℕ) (out : List Release) → length (column f out) ≡ length (column g out)
 as-many f g out = column-length f out ∙ sym (column-length g out)
 
-pub lane-listed : (mode E count : ℕ) (lane s p q text : List ℕ) (R : Row) (N : Numbers) → R ≡ row mode → N ≡ numbersOf R → Lists (releasesOf (row mode) lane) count s p q
+pub lane-listed : (mode E count : ℕ) (lane s c p q text : List ℕ) (R : Row) (N : Numbers) → R ≡ row mode → N ≡ numbersOf R → Lists (releasesOf (row mode) lane) count s c p q
     → written R E (length lane / N .octets) (take count s) (take count p) (take count q) text ≡ roomOver (laneText (row mode) E lane) text
 unfolding laneText
-lane-listed mode E count lane s p q text R N er en l =
+lane-listed mode E count lane s c p q text R N er en l =
     let out = releasesOf (row mode) lane in
     rw (en, er, l .statuses, l .places, l .patterns) (sym (taken (row mode) E (receivedIn (row mode) lane) (column (λ (r : Release). r .status) out) (column (λ (r : Release). r .place) out) (column (λ (r : Release). r .pattern) out) text
     (as-many _ _ out) (as-many _ _ out) (omega (arith, column-length (λ (r : Release). r .status) out, l .few, l .number))))
@@ -86,11 +87,10 @@ lane-listed mode E count lane s p q text R N er en l =
 
 module _ (capture text : List ℕ) where
   pub refused-listing : (r : ℕ) → r ≡ refusalOf capture → (r ≡ 0 → ⊥) → done (record { refusal = r; count = 0 }) text ≡ listed capture text
-  unfolding listed
-  refused-listing r e n =
-      answered r _ (listingOf capture) text (refused r (listingOf capture) text n) (e ∙ still-refused capture _ (λ z. n (e ∙ z)))
+  unfolding refusalOf listed
+  refused-listing = is-refused known capture (listingOf capture) text
 
   pub whole-listing : (mode E : ℕ) (lane : List ℕ) → refusalOf capture ≡ 0 → mode ≡ modeOf capture → E ≡ extentOf capture → lane ≡ laneOf capture
       → roomOver (laneText (row mode) E lane) text ≡ listed capture text
-  unfolding listed listingOf
-  whole-listing mode E lane z em ee el = rw (em, ee, el) (answered _ _ (listingOf capture) text refl (not-yet-refused capture _ z))
+  unfolding refusalOf listed listingOf
+  whole-listing mode E lane z em ee el = rw (em, ee, el) (is-written known capture (listingOf capture) text z)

@@ -6,20 +6,19 @@ use Prim.Native.Nat.{ℕ, _+_, _-_, _*_, _%_, _≤_, _<_}
 use native.Mathlib.Omega.{arith}
 use native.Mathlib.Decide.{ℕ-discrete}
 use borrow.Author.Tests.{not-false, le-leb, lt-leb, eq-eqb, ne-eqb, leb-true, eqb-true}
-use lib.Dec.{T, ltb, leb, eqb, ltb→lt}
+use lib.Dec.{leb, eqb}
 use lib.ListN.{length, getD, take, drop, length-drop}
 use lib.Seq.{take-all}
 use Rattle.bits.specs.Order.{bitAt, number}
 use Rattle.bits.specs.Refusals.{Line, _when_, refusalBy}
 use Rattle.bits.proofs.Choice.{parts-true}
-use Rattle.bits.proofs.Tests.{left, right}
 use Rattle.bits.proofs.Refusals.{Given, first, later, given, passed, none-left, not-given, whenever, only-when}
 use Rattle.frame.specs.declared.modes.Row.{Row}
 use Rattle.frame.specs.declared.modes.Numbers.{Numbers}
 use Rattle.frame.specs.Modes.{known, row, numbersOf, extentFits}
 use Rattle.frame.specs.Lane.{laneOctets}
 use Rattle.capture.specs.declared.Opened.{Opened}
-use Rattle.capture.specs.Form.{modeOf, extentOf, laneOf, limitedBy, longestOf, wellFormed, refusals, refusalOf, opened}
+use Rattle.capture.specs.Form.{modeOf, extentOf, laneOf, limitedBy, longestOf, wellFormed, refusalsBy, refusals, refusalOf, opened}
 
 pub lane-length : (capture : List ℕ) → length (laneOf capture) ≡ length capture - 11
 unfolding laneOf
@@ -87,32 +86,28 @@ lane-rest : (capture : List ℕ) (mode : ℕ) (R : Row) (N : Numbers) → mode �
     → length (laneOf capture) % laneOctets (row (modeOf capture) .gap) ≡ (length capture - 11) % N .octets
 lane-rest capture mode R N em er en = rw (en, er, em, lane-length capture)
 
-module _ (capture : List ℕ) where
-  pub refused-8 : not (wellFormed capture) ≡ true → 8 ≡ refusalOf capture
-  unfolding refusalOf
+-- whichever modes are taken
+module _ (taken : ℕ → Bool) (capture : List ℕ) where
+  pub refused-8 : not (wellFormed capture) ≡ true → 8 ≡ refusalBy (refusalsBy taken capture)
   refused-8 e = given 8 _ _ e
 
   module _ (fine : not (wellFormed capture) ≡ false) (mode : ℕ) (em : mode ≡ modeOf capture) where
-    pub refused-1 : not (known mode) ≡ true → 1 ≡ refusalOf capture
-    unfolding refusalOf
+    pub refused-1 : not (taken mode) ≡ true → 1 ≡ refusalBy (refusalsBy taken capture)
     refused-1 e = given 1 _ _ (rw (← em) e) ∙ passed 8 _ _ fine
 
-    module _ (is-known : not (known mode) ≡ false) where
-      past-mode : (lines : List Line) → refusalBy lines ≡ refusalBy (8 when not (wellFormed capture) ∷ 1 when not (known (modeOf capture)) ∷ lines)
-      past-mode lines = passed 1 _ lines (rw (← em) is-known) ∙ passed 8 _ _ fine
+    module _ (is-taken : not (taken mode) ≡ false) where
+      pub past-mode : (lines : List Line) → refusalBy lines ≡ refusalBy (8 when not (wellFormed capture) ∷ 1 when not (taken (modeOf capture)) ∷ lines)
+      past-mode lines = passed 1 _ lines (rw (← em) is-taken) ∙ passed 8 _ _ fine
 
-      pub refused-2 : not (extentFits (extentOf capture)) ≡ true → 2 ≡ refusalOf capture
-      unfolding refusalOf
+      pub refused-2 : not (extentFits (extentOf capture)) ≡ true → 2 ≡ refusalBy (refusalsBy taken capture)
       refused-2 e = given 2 _ _ e ∙ past-mode _
 
       module _ (fits : not (extentFits (extentOf capture)) ≡ false) (R : Row) (er : R ≡ row mode) (N : Numbers) (en : N ≡ numbersOf R) where
-        pub refused-4 : ((length capture - 11) % N .octets ≡ 0 → ⊥) → 4 ≡ refusalOf capture
-        unfolding refusalOf
+        pub refused-4 : ((length capture - 11) % N .octets ≡ 0 → ⊥) → 4 ≡ refusalBy (refusalsBy taken capture)
         refused-4 n =
             given 4 (uneven capture) [] (rw (lane-rest capture mode R N em er en, ne-eqb ((length capture - 11) % N .octets) 0 n) refl) ∙ passed 2 _ _ fits ∙ past-mode _
 
-        pub not-refused : (length capture - 11) % N .octets ≡ 0 → 0 ≡ refusalOf capture
-        unfolding refusalOf
+        pub not-refused : (length capture - 11) % N .octets ≡ 0 → 0 ≡ refusalBy (refusalsBy taken capture)
         not-refused e =
             none-left
             ∙ passed 4 (uneven capture) [] (rw (lane-rest capture mode R N em er en, eq-eqb ((length capture - 11) % N .octets) 0 e) refl)
@@ -141,44 +136,25 @@ accepted capture z =
       short = omega (arith, lane-length capture, formed .1, longest-known (modeOf capture) is-known);
     }
 
--- ---- what the table's numbers are
-
-abbrev below : ℕ → List Line → Bool
-below m [] = true
-below m (number when test ∷ lines) = ltb number m && below m lines
-
-given-below : (k m : ℕ) (lines : List Line) → T (below m lines) → Given k lines → k < m
-given-below k m l t (first test lines e) = ltb→lt k m (left (ltb k m) (below m lines) t)
-given-below k m l t (later number test lines e g) = given-below k m lines (right (ltb number m) (below m lines) t) g
-
-pub refusal-below : (capture : List ℕ) → refusalOf capture < 10
-unfolding refusalOf
-refusal-below capture = by (ℕ-discrete (refusalBy (refusals capture)) 0)
-  where
-    by : Dec (refusalBy (refusals capture) ≡ 0) → refusalBy (refusals capture) < 10
-    by (yes z) = omega arith
-    by (no n) = given-below _ 10 (refusals capture) tt (only-when _ (refusals capture) n refl)
-
 -- ---- more lines behind the table
 
 behind : (k : ℕ) (a b : List Line) → Given k a → Given k (a ++ b)
 behind k a b (first test lines e) = first test (lines ++ b) e
 behind k a b (later number test lines e g) = later number test (lines ++ b) e (behind k lines b g)
 
-module _ (capture : List ℕ) (more : List Line) where
-  pub still-refused : (refusalOf capture ≡ 0 → ⊥) → refusalOf capture ≡ refusalBy (refusals capture ++ more)
-  unfolding refusalOf
-  still-refused n =
-      let k = refusalBy (refusals capture) in
-      sym (whenever k (refusals capture ++ more) (behind k (refusals capture) more (only-when k (refusals capture) n refl)))
+module _ (taken : ℕ → Bool) (capture : List ℕ) (more : List Line) where
+  abbrev table : List Line
+  table = refusalsBy taken capture
 
-  pub not-yet-refused : refusalOf capture ≡ 0 → refusalBy more ≡ refusalBy (refusals capture ++ more)
-  unfolding refusalOf
+  pub still-refused : (refusalBy table ≡ 0 → ⊥) → refusalBy table ≡ refusalBy (table ++ more)
+  still-refused n = sym (whenever (refusalBy table) (table ++ more) (behind (refusalBy table) table more (only-when (refusalBy table) table n refl)))
+
+  pub not-yet-refused : refusalBy table ≡ 0 → refusalBy more ≡ refusalBy (table ++ more)
   not-yet-refused z =
-      passed 4 (uneven capture) more (not-given 4 (refusals capture) tt z)
-      ∙ passed 2 _ _ (not-given 2 (refusals capture) tt z)
-      ∙ passed 1 _ _ (not-given 1 (refusals capture) tt z)
-      ∙ passed 8 _ _ (not-given 8 (refusals capture) tt z)
+      passed 4 (uneven capture) more (not-given 4 table tt z)
+      ∙ passed 2 _ _ (not-given 2 table tt z)
+      ∙ passed 1 _ _ (not-given 1 table tt z)
+      ∙ passed 8 _ _ (not-given 8 table tt z)
 
 -- ---- the answer of open
 

@@ -3,20 +3,17 @@
 use mathlib.Core.Path.{_≡_, sym, ap, _∙_}
 use mathlib.Core.Logic.{_⊎_, inl, inr}
 use mathlib.Core.Bool.{true, true≢false}
-use mathlib.Core.List.{List, []}
+use mathlib.Core.List.{List}
 use Prim.Native.Nat.{ℕ, zero, suc, _+_, _-_, _*_, _%_, _^_, _≤_, _<_}
 use native.Mathlib.Nat.{not-suc-le-zero}
 use native.Mathlib.Omega.{arith}
 use native.Mathlib.Decide.{ℕ-discrete}
-use borrow.Author.Tests.{le-ltb, ltb-false}
-use lib.ListN.{length, getD}
-use Rattle.bits.specs.Order.{bitAt, laid}
-use Rattle.bits.specs.Refusals.{refusalBy}
-use Rattle.bits.proofs.Refusals.{none-left, passed, not-given}
+use lib.ListN.{length, getD, take}
+use Rattle.bits.specs.Order.{bitAt}
 use Rattle.frame.specs.declared.modes.Sync.{Sync}
 use Rattle.frame.specs.declared.modes.Sync.the-variants.{Crc12, Fec, Crc3, Command}
 use Rattle.frame.specs.declared.modes.Row.{Row}
-use Rattle.frame.specs.Modes.{code, repairs, row, mostOfAll}
+use Rattle.frame.specs.Modes.{code, repairs, known, row, mostOfAll}
 use Rattle.frame.proofs.Rows.{few, most-is, extent-within}
 use Rattle.receiver.specs.Release.{Release, fresh, releaseAt, run}
 use Rattle.receiver.specs.Entry.{column}
@@ -25,12 +22,13 @@ use Rattle.receiver.proofs.Buffers.{column-length}
 use Rattle.receiver.proofs.Numbered.{nth, waiting, numbered, column-at}
 use Rattle.receiver.proofs.Verdicts.{Released, release-cases}
 use Rattle.text.specs.declared.Listed.{Listed}
-use Rattle.text.specs.Writing.{Done, done}
-use Rattle.text.proofs.Refusals.{Counted, counted, whole}
+use Rattle.text.specs.Text.{refusedLine}
+use Rattle.text.specs.Writing.{done, roomOver}
 use Rattle.text.proofs.Short.{Few, text-short, listing-short as lines-short}
 use Rattle.capture.specs.Form.{modeOf, extentOf, laneOf, refusalOf}
-use Rattle.capture.specs.Listing.{receivedIn, releasesOf, laneText, listingOf, longestText, listingRefusals, listed}
-use Rattle.capture.proofs.Refusals.{refusal-below, accepted, still-refused, not-yet-refused}
+use Rattle.capture.specs.Listing.{receivedIn, releasesOf, laneText, listingOf, longestText, listed}
+use Rattle.capture.proofs.Refusals.{accepted}
+use Rattle.capture.proofs.Answers.{printedBy, counted-within, text-printed, line-printed}
 use Rattle.capture.proofs.Received.{received-few, released-are}
 
 pub longest-text : longestText ≡ 18 + 15 * (240 - 1)
@@ -111,39 +109,22 @@ listing-short capture z =
       received-few (modeOf capture) lane (ok .short),
     )
 
--- ---- so that no capture is refused for want of room; what is counted stands in the text, which keeps its length
-
-listed-counted : (capture text : List ℕ) → Counted (refusalBy (listingRefusals capture text)) text (listed capture text)
-unfolding listed
-listed-counted capture text =
-    counted _ (listingOf capture) text
-    (λ z. ltb-false (length text) (length (listingOf capture)) (not-given 7 (listingRefusals capture text) tt z))
-
-room-enough : (capture text : List ℕ) → longestText ≤ length text → refusalBy (listingRefusals capture text) ≡ refusalOf capture
-room-enough capture text room = by (ℕ-discrete (refusalOf capture) 0)
-  where
-    by : Dec (refusalOf capture ≡ 0) → refusalBy (listingRefusals capture text) ≡ refusalOf capture
-    by (no n) = sym (still-refused capture _ n)
-    by (yes z) =
-        sym (not-yet-refused capture _ z)
-        ∙ sym (none-left ∙ passed 7 _ [] (le-ltb (length text) (length (listingOf capture)) (omega (arith, listing-short capture z, room))))
-        ∙ sym z
+-- ---- so that no capture is refused for want of room
 
 module _ (capture text text′ : List ℕ) (r : Listed) (e : done r text′ ≡ listed capture text) where
-  pub refused-as : longestText ≤ length text → r .refusal ≡ refusalOf capture
-  refused-as room = ap (λ (x : Done). x .answer .refusal) e ∙ listed-counted capture text .number ∙ room-enough capture text room
-
-  -- a digit, and no more
-  pub refused-below : longestText ≤ length text → r .refusal < 10
-  refused-below room = omega (arith, refused-as room, refusal-below capture)
-
-  pub whole-listed : r .refusal ≡ 0 → (r .count ≡ length (listingOf capture)) × (text′ ≡ laid (listingOf capture) text)
-  unfolding listed
-  whole-listed z =
-      let is = e ∙ whole _ (listingOf capture) text (sym (listed-counted capture text .number) ∙ ap (λ (x : Done). x .answer .refusal) (sym e) ∙ z) in
-      (ap (λ (x : Done). x .answer .count) is, ap (λ (x : Done). x .text) is)
-
   pub count-within : r .count ≤ length text′
-  count-within =
-      let so = listed-counted capture text in
-      omega (arith, ap (λ (x : Done). x .answer .count) e, so .within, ap (λ (x : Done). length (x .text)) e, so .long)
+  unfolding listed
+  count-within = counted-within known capture (listingOf capture) text text′ r e
+
+  module _ (room : longestText ≤ length text) where
+    fits : refusalOf capture ≡ 0 → length (listingOf capture) ≤ length text
+    fits z = omega (arith, listing-short capture z, room)
+
+    pub listing-printed : r .refusal ≡ 0 → (r .count ≤ length text′) × (take (r .count) text′ ≡ printedBy (refusalOf capture) (listingOf capture))
+    unfolding refusalOf listed
+    listing-printed = text-printed known capture (listingOf capture) text text′ r e fits
+
+    pub refusal-printed : (r .refusal ≡ 0 → ⊥) → (line : Listed) (text″ : List ℕ) → done line text″ ≡ roomOver (refusedLine (r .refusal)) text′
+        → (line .count ≤ length text″) × (take (line .count) text″ ≡ printedBy (refusalOf capture) (listingOf capture))
+    unfolding refusalOf listed
+    refusal-printed n = line-printed known capture (listingOf capture) text text′ r e fits n (omega (arith, room, longest-text))

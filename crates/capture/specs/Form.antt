@@ -34,14 +34,17 @@ wellFormed capture =
     (leb 11 (length capture) && leb (length capture) (11 + longestOf (modeOf capture)))
     && (eqb (number (bitAt capture) 0 32) 3 && eqb (number (bitAt capture) 56 32) (length capture - 11))
 
--- the table: 8 first, then document 01's order
-abbrev pub refusals : List ℕ → List Line
-refusals capture =
+-- the table, by the modes that are taken: 8 first, then document 01's order
+abbrev pub refusalsBy : (ℕ → Bool) → List ℕ → List Line
+refusalsBy taken capture =
     8 when not (wellFormed capture)
-    ∷ 1 when not (known (modeOf capture))
+    ∷ 1 when not (taken (modeOf capture))
     ∷ 2 when not (extentFits (extentOf capture))
     ∷ 4 when not (eqb (length (laneOf capture) % laneOctets (row (modeOf capture) .gap)) 0)
     ∷ []
+
+abbrev pub refusals : List ℕ → List Line
+refusals = refusalsBy known
 
 unfoldable pub refusalOf : List ℕ → ℕ
 refusalOf capture = refusalBy (refusals capture)

@@ -4,6 +4,7 @@ ghost use Prim.Native.Nat.{_*_, _≤_};
 ghost use Rattle.bits.specs.Order.{bitAt, number};
 ghost use Rattle.frame.specs.Modes.{longestLane};
 ghost use Rattle.capture.specs.Form.{limitedBy, longestOf, wellFormed, extentOf, refusalOf};
+ghost use Rattle.capture.specs.Messages.{messagesRefusal};
 use frame::modes;
 
 // The count of a section, which stands before it.
@@ -74,4 +75,18 @@ pub(crate) fn refusal_of(capture: &[u8]) -> u8
         return 4;
     }
     0
+}
+
+// The same where the mode has to have commands: one without them is refused like one that is unknown, before all but 8.
+pub(crate) fn messages_refusal(capture: &[u8]) -> u8
+    ensures { λ r. ⌜ r ≡ messagesRefusal (now (capture .entry)) ⌝ }
+{
+    let refusal = refusal_of(capture);
+    if refusal == 8 {
+        return refusal;
+    }
+    if commands::channel_words(bits::octet_at(capture, 4)) == 0 {
+        return 1;
+    }
+    refusal
 }

@@ -31,9 +31,9 @@ use Rattle.lock.specs.Run.{stateAfter}
 use Rattle.lock.specs.Stream.{PilotHeaders}
 use Rattle.lock.proofs.Words.{words-fit}
 use Rattle.lock.proofs.Runs.{state-same}
-use Rattle.demands.specs.Calls.{Sending, userOctets, AllSent, laneSent}
+use Rattle.demands.specs.Calls.{Sending, userOctets, commandsGiven, AllSent, laneSent}
 use Rattle.demands.specs.Promises.{headersFrom}
-use Rattle.demands.proofs.Sent.{one-lane, allCommands}
+use Rattle.demands.proofs.Sent.{one-lane}
 
 module _ (mode E : ℕ) (is-known : known mode ≡ true) (crc : repairs (row mode .sync) ≡ false) (s : Sender) (user commands : List ℕ)
     (given : 256 * length commands ≤ length user) (fits : Fits (row mode) E s) (some : 1 ≤ E) (few : E ≤ 256) (p : ℕ) where
@@ -100,7 +100,7 @@ pub along-lane : (mode E : ℕ) → known mode ≡ true → repairs (row mode .s
 along-lane mode E is-known crc s calls h P holds p n more inside =
     let one = one-lane mode E s calls h in
     let user = userOctets calls in
-    let commands = allCommands calls in
+    let commands = commandsGiven calls in
     let w = blockWidth (row mode .gap) in
     let L = laneOctets (row mode .gap) in
     let long : length (laneSent mode E s calls) ≡ L * length commands = ap length (one .made) ∙ lane-length (row mode) E s user commands in

@@ -8,24 +8,31 @@ use native.Mathlib.Nat.{mul-le-mul-left, le-refl, le-of-mul-le-mul-left}
 use native.Mathlib.Omega.{arith}
 use borrow.Author.Tests.{ltb-true, ltb-false}
 use lib.Bits.{xor-lt}
-use lib.ListN.{length}
+use lib.ListN.{length, take, drop, length-drop}
+use lib.Seq.{length-take-le, getD-take, getD-drop, ext-getD}
 use Rattle.bits.specs.Order.{bitAt, listFrom}
 use Rattle.bits.proofs.Numbers.{bitAt-lt}
+use Rattle.bits.proofs.Xor.{xor-eq}
 use Rattle.bits.proofs.Ones.{ones-none}
 use Rattle.frame.specs.declared.modes.Sync.{Sync}
-use Rattle.frame.specs.Modes.{code, repairs, checks, row}
+use Rattle.frame.specs.Modes.{command, code, repairs, checks, row}
 use Rattle.fill.specs.Register.{shifts}
-use Rattle.frame.specs.Lane.{blockWidth, laneOctets, headerPlace, dataPlace, fillPlace}
+use Rattle.frame.specs.Lane.{blockWidth, laneOctets, headerPlace, dataPlace, fillPlace, headerAt}
 use Rattle.parity.proofs.Bursts.{one-burst}
 use Rattle.parity.proofs.Sets.{one-set}
 use Rattle.frame.proofs.Reading.{invalid-flips}
+use Rattle.frame.proofs.SyncWord.{place, all-stand, only-flagged}
+use Rattle.frame.proofs.Places.{header-same}
 use Rattle.fill.proofs.Registers.{moves}
 use Rattle.frame.proofs.Sizes.{octets-some}
 use Rattle.frame.proofs.Lane.{fill-bound}
 use Rattle.frame.proofs.Rows.{limit-some, one-group}
+use Rattle.commands.specs.Promises.{reads, allRead}
+use Rattle.commands.proofs.Promised.{all-read-back}
 use Rattle.sender.proofs.Runs.{lane-length}
 use Rattle.sender.proofs.Entry.{answered, fits}
 use Rattle.sender.proofs.Multiblocks.{fill-sent}
+use Rattle.receiver.specs.Release.{fresh}
 use Rattle.receiver.proofs.Ignored.{gaps-ignored}
 use Rattle.judge.specs.Sound.{sound, soundness}
 use Rattle.judge.proofs.Judging.{called-sound}
@@ -34,16 +41,16 @@ use Rattle.lock.specs.Stream.{Held}
 use Rattle.lock.proofs.Runs.{state-none}
 use Rattle.lock.proofs.Bound.{locked-in-time, nothing-kept}
 use Rattle.lock.proofs.Kept.{goes-on, stays-apart, kept-followed}
-use Rattle.demands.specs.Calls.{userOctets, laneSent, laneHeard}
+use Rattle.demands.specs.Calls.{userOctets, commandsGiven, laneSent, laneHeard, commandsReleased}
 use Rattle.demands.specs.Transfer.{Transfer, flips, DamagedBy, Untouched, releases, released, status, given, headerFlips}
-use Rattle.demands.specs.Promises.{Limits, Kinds, FecDelivers, CrcTellsHits, CrcUntouchedSound, SoundTrue, FecSoundTrue, CrcSoundTrue, UncheckedNeverSound, UndamagedDelivers, InvalidTold, InvalidByFlips, UntouchedValid, FillIgnored, FillByTable, NeverStill, BurstsByPairs, OneBurst, OneSet, LocksInTime, NothingKept, LocksGoOn, NeverMeet, KeptFollowed, headersFrom, DozenRight}
+use Rattle.demands.specs.Promises.{Limits, Kinds, FecDelivers, CrcTellsHits, CrcUntouchedSound, SoundTrue, FecSoundTrue, CrcSoundTrue, UncheckedNeverSound, UndamagedDelivers, UntouchedTells, MessagesCross, InvalidTold, InvalidByFlips, UntouchedValid, FillIgnored, FillByTable, NeverStill, BurstsByPairs, OneBurst, OneSet, LocksInTime, NothingKept, LocksGoOn, NeverMeet, KeptFollowed, headersFrom, DozenRight}
 use Rattle.demands.proofs.Places.{header-inside, header-from-start}
-use Rattle.demands.proofs.Sent.{allCommands, one-lane}
+use Rattle.demands.proofs.Sent.{one-lane}
 use Rattle.demands.proofs.Pairs.{pairs, in-bursts}
 use Rattle.demands.proofs.Locks.{along-lane}
 use Rattle.demands.proofs.Dozen.{all-right}
 use Rattle.demands.proofs.Delivered.{Lanes, Right, repairs-right, untouched-right, next-octet, hit-status, sound-octet, untouched-status, unchecked-status}
-use Rattle.demands.proofs.Released.{before, after, count, sends-them, heard-up-to, lanes, all-released, status-at, invalid-at, octet-released}
+use Rattle.demands.proofs.Released.{before, after, count, sends-them, sends-command, heard-up-to, lanes, all-released, commands-length, given-so-many, status-at, command-at, invalid-at, octet-released}
 
 pub limits : Limits
 unfolding listFrom row laneOctets blockWidth
@@ -158,6 +165,37 @@ undamaged-delivers mode E t clean i j l m =
         untouched-right (row mode) heard k h (λ x a b.
         clean x (omega (arith, heard-up-to t (k + 2) (omega arith))))
 
+-- ---- commands
+
+pub untouched-tells : UntouchedTells
+untouched-tells mode E t i l u =
+    let g = row mode .gap in
+    let next = all-released t i l in
+    let same : (x : ℕ) → 8 * laneOctets g * i ≤ x → x < 8 * laneOctets g * suc i → after t x ≡ before t x =
+    λ x a b. sym (xor-eq (before t x) (after t x) (u x a (subst (λ (n : ℕ). x < 8 * laneOctets g * n) {x = suc i} {y = i + 1} (omega arith) b))) in
+    let same-header : (b : ℕ) → b < 32 → headerAt g (after t) i b ≡ headerAt g (before t) i b =
+    λ b h. header-same g (after t) (before t) i b (same (headerPlace g i b) (header-from-start g i b) (omega (arith, header-inside g i b h)))
+    (same (headerPlace g i b + 1) (omega (arith, header-from-start g i b)) (header-inside g i b h)) in
+    command-at t i next
+    ∙ only-flagged (row mode .sync) (headerAt g (after t) i) (headerAt g (before t) i) (λ k h. same-header (place (row mode .sync) (command k)) (all-stand (row mode .sync) .commands k h))
+    ∙ sends-command t i (omega arith)
+
+-- so that on an undamaged lane the commands released are those given from where the receiver began on
+module _ {mode E : ℕ} (t : Transfer mode E) (clean : (x : ℕ) → x < 8 * length (laneHeard (t .receivings)) → flips t x ≡ 0) where
+  pub commands-back : commandsReleased mode fresh (t .receivings) ≡ take (releases t) (drop (t .from) (commandsGiven (t .sendings)))
+  commands-back =
+      let n = releases t in
+      let from-there = drop (t .from) (commandsGiven (t .sendings)) in
+      let long : length (take n from-there) ≡ n = length-take-le n from-there (omega (arith, length-drop (t .from) (commandsGiven (t .sendings)), given-so-many t)) in
+      ext-getD 0 (commandsReleased mode fresh (t .receivings)) (take n from-there) (commands-length t ∙ sym long) (λ i h.
+      let l : i < n = subst (λ (x : ℕ). i < x) (commands-length t) h in
+      untouched-tells mode E t i l (λ x a b. clean x (omega (arith, heard-up-to t (i + 1) (omega (arith, all-released t i l)))))
+      ∙ sym (getD-take n from-there i 0 l ∙ getD-drop (t .from) (commandsGiven (t .sendings)) i 0))
+
+pub messages-cross : MessagesCross
+messages-cross mode E channel t clean messages ok e =
+    subst (λ (l : List ℕ). reads mode l 0 (suc (length messages)) ≡ allRead mode 0 messages) (sym (commands-back t clean ∙ e)) (all-read-back mode messages channel ok)
+
 -- ---- invalid headers
 
 pub tells-invalid : InvalidTold
@@ -188,13 +226,13 @@ fill-ignored mode s c other long same =
 pub fill-by-table : FillByTable
 fill-by-table mode E gaps s calls sent m t j inside ht hj =
     let one = one-lane mode E s calls sent in
-    let n = length (allCommands calls) in
+    let n = length (commandsGiven calls) in
     let L = laneOctets (row mode .gap) in
-    let long : length (laneSent mode E s calls) ≡ L * n = ap length (one .made) ∙ lane-length (row mode) E s (userOctets calls) (allCommands calls) in
+    let long : length (laneSent mode E s calls) ≡ L * n = ap length (one .made) ∙ lane-length (row mode) E s (userOctets calls) (commandsGiven calls) in
     let within : m + 1 ≤ n = le-of-mul-le-mul-left (subst (λ (x : ℕ). L * (m + 1) ≤ x) long inside) (octets-some (row mode .gap)) in
     let fits = one .ready (omega arith) .0 .fill in
     ap (λ (l : List ℕ). bitAt l (fillPlace (row mode .gap) m t j)) (one .made)
-    ∙ fill-sent (row mode) E s (userOctets calls) (allCommands calls) (omega (arith, one .given)) gaps (omega (arith, fits, fill-bound (row mode .gap) gaps)) m t j (omega arith) ht hj
+    ∙ fill-sent (row mode) E s (userOctets calls) (commandsGiven calls) (omega (arith, one .given)) gaps (omega (arith, fits, fill-bound (row mode .gap) gaps)) m t j (omega arith) ht hj
 
 pub never-still : NeverStill
 never-still mode E gaps s c z m t =

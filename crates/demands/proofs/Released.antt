@@ -1,4 +1,5 @@
--- A transfer's answers, by number: octet j and status of release i are those of the run over all multiblocks heard. Assumes nothing.
+-- A transfer's answers, by number: octet j, status, command and number of invalid headers of release i are those of the run over all multiblocks
+-- heard. Assumes nothing.
 use mathlib.Core.Path.{_≡_, refl, sym, ap, _∙_, subst}
 use mathlib.Core.List.{List}
 use Prim.Native.Nat.{ℕ, suc, _+_, _-_, _*_, _/_, _<_, _≤_}
@@ -9,20 +10,21 @@ use Rattle.bits.specs.Order.{bitAt}
 use Rattle.bits.proofs.Numbers.{bitAt-lt}
 use Rattle.frame.specs.declared.modes.Row.{Row}
 use Rattle.frame.specs.Modes.{row}
-use Rattle.frame.specs.Lane.{laneOctets, invalidHeaders}
+use Rattle.frame.specs.Lane.{laneOctets, headerAt, invalidHeaders}
+use Rattle.frame.specs.SyncWord.{flaggedCommand}
 use Rattle.frame.proofs.Lane.{laneFrom}
 use Rattle.frame.proofs.Sizes.{octets-some}
 use Rattle.sender.proofs.Runs.{lane-length}
 use Rattle.receiver.specs.Release.{Release, fresh, releaseAt, run}
 use Rattle.receiver.proofs.Afresh.{all-but-one}
 use Rattle.receiver.proofs.Buffers.{column-length, release-length}
-use Rattle.receiver.proofs.Numbered.{nth, waiting, invalid-is, numbered, octet-at, column-at}
-use Rattle.demands.specs.Calls.{userOctets, laneSent, laneHeard}
-use Rattle.demands.specs.Transfer.{Transfer, flips, DamagedBy, releases, released, status, invalidTold}
+use Rattle.receiver.proofs.Numbered.{nth, waiting, command-is, invalid-is, numbered, octet-at, column-at}
+use Rattle.demands.specs.Calls.{userOctets, commandsGiven, commandsReleased, laneSent, laneHeard}
+use Rattle.demands.specs.Transfer.{Transfer, flips, DamagedBy, releases, released, status, commandTold, invalidTold, commandGiven}
 use Rattle.demands.specs.Damage.{Pairwise}
 use Rattle.demands.proofs.Pairs.{pairs}
 use Rattle.demands.proofs.Heard.{AllRun, all-calls}
-use Rattle.demands.proofs.Sent.{OneLane, one-lane, allCommands, Sends, sends}
+use Rattle.demands.proofs.Sent.{OneLane, one-lane, Sends, sends, command-sent}
 use Rattle.demands.proofs.Delivered.{Lanes}
 
 module _ {mode E : ℕ} (t : Transfer mode E) where
@@ -47,16 +49,20 @@ module _ {mode E : ℕ} (t : Transfer mode E) where
   one = one-lane mode E (t .start) (t .sendings) (t .sent)
 
   -- no more multiblocks than were sent
-  enough : t .from + count ≤ length (allCommands (t .sendings))
+  enough : t .from + count ≤ length (commandsGiven (t .sendings))
   enough =
       let L = laneOctets (R .gap) in
-      let n = length (allCommands (t .sendings)) in
-      let sent : length (laneSent mode E (t .start) (t .sendings)) ≡ L * n = ap length (one .made) ∙ lane-length R E (t .start) (userOctets (t .sendings)) (allCommands (t .sendings)) in
+      let n = length (commandsGiven (t .sendings)) in
+      let sent : length (laneSent mode E (t .start) (t .sendings)) ≡ L * n = ap length (one .made) ∙ lane-length R E (t .start) (userOctets (t .sendings)) (commandsGiven (t .sendings)) in
       let both : L * (t .from + count) ≤ L * n = omega (arith, t .inside, sent, all-run .whole, mul-add L (t .from) count) in
       le-of-mul-le-mul-left both (octets-some (R .gap))
 
   pub sends-them : Sends R (userOctets (t .sendings)) (t .start .history) (t .from) count before
   sends-them = sends mode E (t .start) (t .sendings) one (t .from) count enough
+
+  -- and their commands
+  pub sends-command : (i : ℕ) → i < count → flaggedCommand (R .sync) (headerAt (R .gap) before i) ≡ commandGiven t i
+  sends-command i h = command-sent mode E (t .start) (t .sendings) one (t .from) i (omega (arith, enough))
 
   -- the lane bits of the multiblocks heard
   pub heard-up-to : (k : ℕ) → k ≤ count → 8 * laneOctets (R .gap) * k ≤ 8 * length (laneHeard (t .receivings))
@@ -96,11 +102,23 @@ module _ {mode E : ℕ} (t : Transfer mode E) where
   out-length = all-but-one R after count
 
   -- all but the last were released
-  pub all-released : (i : ℕ) → i < releases t → suc i < count
+  pub releases-are : releases t ≡ count - 1
   unfolding out
-  all-released i h =
-      let e : releases t ≡ length out = ap length (all-run .lists _ (λ (r : Release). r .status) (λ x o s c p q i. (s, refl))) ∙ column-length (λ (r : Release). r .status) out in
-      omega (arith, out-length)
+  releases-are = ap length (all-run .lists _ (λ (r : Release). r .status) (λ x o s c p q i. (s, refl))) ∙ column-length (λ (r : Release). r .status) out ∙ out-length
+
+  pub all-released : (i : ℕ) → i < releases t → suc i < count
+  all-released i h = omega (arith, releases-are)
+
+  -- with a command each
+  pub commands-length : length (commandsReleased mode fresh (t .receivings)) ≡ releases t
+  unfolding out
+  commands-length =
+      ap length (all-run .lists _ (λ (r : Release). r .command) (λ x o s c p q i. (c, refl)))
+      ∙ column-length (λ (r : Release). r .command) out ∙ out-length ∙ sym releases-are
+
+  -- no more than were given
+  pub given-so-many : t .from + releases t ≤ length (commandsGiven (t .sendings))
+  given-so-many = omega (arith, enough, releases-are)
 
   module _ (i : ℕ) (l : suc i < count) where
     at : (k : ℕ) → suc k < count → nth out k ≡ releaseAt R after (suc k) (waiting R after k)
@@ -115,6 +133,14 @@ module _ {mode E : ℕ} (t : Transfer mode E) where
         ap (λ (x : List ℕ). getD x i 0) (all-run .lists _ (λ (r : Release). r .status) (λ x o s c p q i. (s, refl)))
         ∙ column-at (λ (r : Release). r .status) out i (omega (arith, out-length))
         ∙ ap (λ (r : Release). r .status) (at i l)
+
+    pub command-at : commandTold t i ≡ flaggedCommand (R .sync) (headerAt (R .gap) after i)
+    unfolding out
+    command-at =
+        ap (λ (x : List ℕ). getD x i 0) (all-run .lists _ (λ (r : Release). r .command) (λ x o s c p q v. (c, refl)))
+        ∙ column-at (λ (r : Release). r .command) out i (omega (arith, out-length))
+        ∙ ap (λ (r : Release). r .command) (at i l)
+        ∙ command-is R after i
 
     pub invalid-at : invalidTold t i ≡ invalidHeaders (R .gap) after i
     unfolding out

@@ -23,6 +23,10 @@ abbrev pub userOctets : List Sending → List ℕ
 userOctets [] = []
 userOctets (c ∷ calls) = c .user ++ userOctets calls
 
+abbrev pub commandsGiven : List Sending → List ℕ
+commandsGiven [] = []
+commandsGiven (c ∷ calls) = c .commands ++ commandsGiven calls
+
 module _ (mode E : ℕ) where
   abbrev pub sending : Sender → Sending → sender.Done
   sending s c = sender.entry mode E s (c .user) (c .commands) (c .lane)
@@ -72,6 +76,9 @@ module _ (mode : ℕ) where
 
   abbrev pub statusesReleased : Receiver → List Receiving → List ℕ
   statusesReleased = listReleased (λ (d : receiver.Done). d .statuses)
+
+  abbrev pub commandsReleased : Receiver → List Receiving → List ℕ
+  commandsReleased = listReleased (λ (d : receiver.Done). d .commands)
 
   abbrev pub invalidReleased : Receiver → List Receiving → List ℕ
   invalidReleased = listReleased (λ (d : receiver.Done). d .invalid)

@@ -4,7 +4,7 @@ use mathlib.Core.Bool.{Bool, true, false}
 use mathlib.Core.Logic.{_⊎_}
 use mathlib.Core.List.{List, [], _∷_, List·Memᴰ}
 use Prim.Native.Nat.{ℕ, suc, _+_, _-_, _*_, _/_, _%_, _≤_, _<_}
-use lib.ListN.{length}
+use lib.ListN.{length, take, drop}
 use Rattle.bits.specs.Choice.{bitOf}
 use Rattle.bits.specs.Order.{bitAt, listFrom}
 use Rattle.parity.specs.Codeword.{fec, remainderOf}
@@ -14,9 +14,12 @@ use Rattle.fill.specs.Register.{registerAfter, shifts, still}
 use Rattle.fill.specs.Table38.{fillBit}
 use Rattle.frame.specs.Headers.{headerRead}
 use Rattle.frame.specs.Lane.{blockWidth, laneOctets, dataPlace, fillPlace, inGap, valueAt, invalidHeaders}
+use Rattle.commands.specs.Writing.{channelWords}
+use Rattle.commands.specs.Promises.{Given, AllAccepted, allEncoded, reads, allRead}
 use Rattle.sender.specs.declared.Sender.{Sender}
 use Rattle.judge.specs.Sound.{sound, soundness}
 use Rattle.receiver.specs.declared.Receiver.{Receiver}
+use Rattle.receiver.specs.Release.{fresh}
 use Rattle.receiver.specs.Entry as receiver
 use Rattle.lock.specs.declared.Phase.the-variants.{Following}
 use Rattle.lock.specs.declared.Lock.{Lock}
@@ -25,8 +28,8 @@ use Rattle.lock.specs.Refusals.{stepped}
 use Rattle.lock.specs.Run.{stateAfter}
 use Rattle.lock.specs.Stream.{Held}
 use Rattle.demands.specs.Damage.{InBursts, Pairwise}
-use Rattle.demands.specs.Calls.{Sending, sending, AllSent, laneSent, Receiving, receiving, laneHeard}
-use Rattle.demands.specs.Transfer.{Transfer, flips, DamagedBy, Untouched, releases, released, status, invalidTold, given, headerFlips}
+use Rattle.demands.specs.Calls.{Sending, sending, AllSent, laneSent, commandsGiven, Receiving, receiving, laneHeard, commandsReleased}
+use Rattle.demands.specs.Transfer.{Transfer, flips, DamagedBy, Untouched, releases, released, status, commandTold, invalidTold, given, commandGiven, headerFlips}
 use Rattle.demands.specs.Dozen.{Case, Right, dozen}
 
 -- ---- demand 3's bursts, read off the mode's row
@@ -106,6 +109,21 @@ abbrev pub UndamagedDelivers : Type 0
 UndamagedDelivers =
     (mode E : ℕ) (t : Transfer mode E) → ((x : ℕ) → x < 8 * length (laneHeard (t .receivings)) → flips t x ≡ 0)
     → (i j : ℕ) → suc i < releases t → j < 256 → released t (suc i) j ≡ given t (suc i) j
+
+-- ---- commands (request 6)
+
+-- in every mode, the command of a released multiblock that was untouched is the one given, with no flag; the first one's too, since a command asks for
+-- no trust
+abbrev pub UntouchedTells : Type 0
+UntouchedTells = (mode E : ℕ) (t : Transfer mode E) (i : ℕ) → i < releases t → Untouched t i (i + 1) → commandTold t i ≡ commandGiven t i
+
+-- in a mode with a command channel, where the commands given to the multiblocks that were released are messages one after another, on an undamaged lane
+-- the commands released read back as these messages, and then nothing
+abbrev pub MessagesCross : Type 0
+MessagesCross =
+    (mode E : ℕ) → 1 ≤ channelWords mode → (t : Transfer mode E) → ((x : ℕ) → x < 8 * length (laneHeard (t .receivings)) → flips t x ≡ 0)
+    → (messages : List Given) → AllAccepted mode messages → take (releases t) (drop (t .from) (commandsGiven (t .sendings))) ≡ allEncoded mode messages
+    → reads mode (commandsReleased mode fresh (t .receivings)) 0 (suc (length messages)) ≡ allRead mode 0 messages
 
 -- ---- invalid headers (request 1), with any bits flipped
 

@@ -12,7 +12,7 @@ use Rattle.frame.specs.Lane.{laneOctets, headerPlace}
 use Rattle.sender.specs.declared.Sender.{Sender}
 use Rattle.receiver.specs.Release.{fresh}
 use Rattle.demands.specs.Damage.{InBursts}
-use Rattle.demands.specs.Calls.{Sending, Receiving, userOctets, AllSent, laneSent, laneHeard, AllHeard, octetsReleased, statusesReleased, invalidReleased}
+use Rattle.demands.specs.Calls.{Sending, Receiving, userOctets, commandsGiven, AllSent, laneSent, laneHeard, AllHeard, octetsReleased, statusesReleased, commandsReleased, invalidReleased}
 
 pub record Transfer (mode E : ℕ) : Type 0 where
   -- any accepted calls of one mode and E; user octets are octets
@@ -42,18 +42,24 @@ module _ {mode E : ℕ} (t : Transfer mode E) where
   abbrev pub releases : ℕ
   releases = length (statusesReleased mode fresh (t .receivings))
 
-  -- octet j, status and number of invalid headers of release i, and octet j of the multiblock sent there
+  -- octet j, status, command and number of invalid headers of release i, and octet j and command of the multiblock sent there
   abbrev pub released : ℕ → ℕ → ℕ
   released i j = getD (octetsReleased mode fresh (t .receivings)) (256 * i + j) 0
 
   abbrev pub status : ℕ → ℕ
   status i = getD (statusesReleased mode fresh (t .receivings)) i 0
 
+  abbrev pub commandTold : ℕ → ℕ
+  commandTold i = getD (commandsReleased mode fresh (t .receivings)) i 0
+
   abbrev pub invalidTold : ℕ → ℕ
   invalidTold i = getD (invalidReleased mode fresh (t .receivings)) i 0
 
   abbrev pub given : ℕ → ℕ → ℕ
   given i j = getD (userOctets (t .sendings)) (256 * (t .from + i) + j) 0
+
+  abbrev pub commandGiven : ℕ → ℕ
+  commandGiven i = getD (commandsGiven (t .sendings)) (t .from + i) 0
 
   -- how many bits were flipped in the headers of multiblock i: of their first bits, and of their second
   abbrev pub headerFlips : ℕ → ℕ

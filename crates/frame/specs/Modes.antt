@@ -1,7 +1,7 @@
--- The modes, one row each: document 01, "From octets to lane bits"; requests 2 and 5; clauses 7.1 and 7.3.4 to 7.3.7. Assumes nothing.
+-- The modes, one row each: document 01, "From octets to lane bits"; requests 2, 5 and 6; clauses 7.1 and 7.3.4 to 7.3.7. Assumes nothing.
 use mathlib.Core.Bool.{Bool, true, false, _&&_}
 use mathlib.Core.List.{List, [], _∷_, _++_}
-use Prim.Native.Nat.{ℕ, zero, suc, _+_, _-_, _*_, _^_}
+use Prim.Native.Nat.{ℕ, zero, suc, _+_, _-_, _*_, _/_, _^_}
 use lib.Dec.{ltb, leb, eqb}
 use lib.ListN.{length, getD, replicate}
 use Rattle.bits.specs.Choice.{pick}
@@ -67,6 +67,10 @@ commandWidth Fec = 0
 commandWidth Crc3 = 7
 commandWidth Command = 19
 
+-- words of a command, of six bits each, and one bit of parity for all of them (clause 7.3.7.3; request 6)
+abbrev pub commandWords : Sync → ℕ
+commandWords S = commandWidth S / 6
+
 -- commands with their flag are below this, and 0 is the only one where there is none
 abbrev pub flaggedBound : Sync → ℕ
 flaggedBound S = pick (eqb (commandWidth S) 0) 1 (2 ^ (commandWidth S + 1))
@@ -112,6 +116,7 @@ numbersOf R = record {
   owns = 2 ^ parityWidth (R .sync) own;
   commands = 2 ^ commandWidth (R .sync);
   flagged = flaggedBound (R .sync);
+  words = commandWords (R .sync);
   fills = fillBound (R .gap);
   octets = laneOctets (R .gap);
   width = blockWidth (R .gap);

@@ -19,12 +19,13 @@ pub struct Row {
 }
 
 // What follows from a row: parities that go with the next sync word and with their own, commands, commands with their flag and fill registers are
-// below these; octets of a multiblock on the lane, and bits of a block; whether a burst is flipped back.
+// below these; words of a command; octets of a multiblock on the lane, and bits of a block; whether a burst is flipped back.
 pub struct Numbers {
     pub parities: u32,
     pub owns: u16,
     pub commands: u32,
     pub flagged: u32,
+    pub words: usize,
     pub fills: u32,
     pub octets: usize,
     pub width: u32,
@@ -107,6 +108,7 @@ pub fn numbers_of(row: Row) -> Numbers
             owns: 1,
             commands: 0x80,
             flagged: 0x100,
+            words: 1,
             fills,
             octets,
             width,
@@ -117,6 +119,7 @@ pub fn numbers_of(row: Row) -> Numbers
             owns: 1,
             commands: 1,
             flagged: 1,
+            words: 0,
             fills,
             octets,
             width,
@@ -127,6 +130,7 @@ pub fn numbers_of(row: Row) -> Numbers
             owns: 0x200,
             commands: 0x80,
             flagged: 0x100,
+            words: 1,
             fills,
             octets,
             width,
@@ -137,6 +141,7 @@ pub fn numbers_of(row: Row) -> Numbers
             owns: 1,
             commands: 0x8_0000,
             flagged: 0x10_0000,
+            words: 3,
             fills,
             octets,
             width,

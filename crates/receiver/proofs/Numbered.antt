@@ -12,9 +12,9 @@ use lib.Seq.{getD-at, getD-append-add}
 use Rattle.bits.specs.Choice.{pick}
 use Rattle.bits.specs.Order.{bitAt, number}
 use Rattle.frame.specs.declared.modes.Row.{Row}
-use Rattle.frame.specs.Lane.{dataOctets, syncBit, invalidHeaders}
+use Rattle.frame.specs.Lane.{dataOctets, headerAt, syncBit, invalidHeaders}
 use Rattle.frame.specs.Modes.{before, own}
-use Rattle.frame.specs.SyncWord.{readParity, whole}
+use Rattle.frame.specs.SyncWord.{readParity, whole, flaggedCommand}
 use Rattle.scrambler.specs.Scrambling.{descrambled}
 use Rattle.judge.specs.declared.Verdict.{Verdict}
 use Rattle.receiver.specs.declared.Receiver.{Receiver}
@@ -79,7 +79,16 @@ module _ (R : Row) (lane : ℕ → ℕ) where
   unfolding releaseAt
   status-is i = refl
 
-  -- a release tells its own invalid headers
+  -- a release tells its own command
+  waiting-command : (i : ℕ) → waiting i .command ≡ flaggedCommand (R .sync) (headerAt (R .gap) lane i)
+  unfolding run step waitingAt
+  waiting-command i = either (λ s. s .command ≡ flaggedCommand (R .sync) (headerAt (R .gap) lane i)) (run R lane fresh i .state .waiting) _ _ refl refl
+
+  pub command-is : (i : ℕ) → releaseAt R lane (suc i) (waiting i) .command ≡ flaggedCommand (R .sync) (headerAt (R .gap) lane i)
+  unfolding releaseAt
+  command-is i = waiting-command i
+
+  -- and its own invalid headers
   waiting-invalid : (i : ℕ) → waiting i .invalid ≡ invalidHeaders (R .gap) lane i
   unfolding run step waitingAt
   waiting-invalid i = either (λ s. s .invalid ≡ invalidHeaders (R .gap) lane i) (run R lane fresh i .state .waiting) _ _ refl refl

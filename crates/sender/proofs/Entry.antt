@@ -3,17 +3,19 @@
 use mathlib.Core.Path.{_≡_, refl, sym, ap, _∙_, subst}
 use mathlib.Core.Bool.{true, false, true≢false}
 use mathlib.Core.List.{List, []}
-use Prim.Native.Nat.{ℕ, _*_, _/_, _%_, _≤_, _<_}
+use Prim.Native.Nat.{ℕ, _*_, _/_, _%_, _^_, _≤_, _<_}
 use native.Mathlib.Nat.{div-add-mod'}
 use native.Mathlib.Omega.{arith}
 use borrow.Author.Tests.{eqb-true, ltb-false, not-true, not-false, eq-eqb, ne-eqb}
 use lib.Dec.{eqb}
-use lib.ListN.{length}
+use lib.ListN.{length, getD}
+use lib.Pow.{pow-pos}
 use Rattle.bits.specs.Order.{laid}
+use Rattle.bits.proofs.Bounds.{one-below}
 use Rattle.bits.proofs.Choice.{pick-both, parts-true}
 use Rattle.bits.proofs.Refusals.{testOf, not-given, Given, first, later, only-when}
 use Rattle.frame.specs.declared.modes.Row.{Row}
-use Rattle.frame.specs.Modes.{row}
+use Rattle.frame.specs.Modes.{row, commandWidth}
 use Rattle.frame.specs.Lane.{laneOctets}
 use Rattle.frame.proofs.Rows.{extent-within}
 use Rattle.multiblock.specs.Shape.{shape}
@@ -71,6 +73,12 @@ module _ (mode E : ℕ) (s : Sender) (user commands old : List ℕ) where
 
     each : length commands ≡ length user / 256
     each = eqb-true _ _ (parts-true _ _ (not-false _ (not-so 6)) .0)
+
+    -- each command has no more bits than the mode's sync word carries
+    pub commands-fit : (i : ℕ) → getD commands i 0 < 2 ^ commandWidth (row mode .sync)
+    commands-fit =
+        one-below (2 ^ commandWidth (row mode .sync)) commands (pow-pos (commandWidth (row mode .sync)))
+        (parts-true (eqb (length commands) (length user / 256)) _ (not-false _ (not-so 6)) .1)
 
     pub whole : length user ≡ 256 * length commands
     whole = omega (arith, each, eqb-true (length user % 256) 0 (not-false _ (not-so 4)), div-add-mod' (length user) 256)

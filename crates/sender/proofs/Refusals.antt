@@ -5,12 +5,13 @@ use mathlib.Core.List.{List, [], _∷_}
 use Prim.Native.Nat.{ℕ, _*_, _/_, _%_, _≤_}
 use lib.Dec.{ltb, eqb}
 use lib.ListN.{length}
+use Rattle.bits.specs.Bounds.{allBelow}
 use Rattle.bits.specs.Refusals.{_when_, refusalBy}
 use Rattle.frame.specs.declared.modes.Numbers.{Numbers}
 use Rattle.frame.specs.Modes.{known, row, numbersOf, longestLane, extentFits}
 use Rattle.frame.proofs.Rows.{lane-fits}
 use Rattle.sender.specs.declared.Sender.{Sender}
-use Rattle.sender.specs.Refusal.{stateFits, commandsFit, refusalOf}
+use Rattle.sender.specs.Refusal.{stateFits, refusalOf}
 
 -- the lane of as many multiblocks as a call takes, by the numbers that the code goes by
 pub lane-short : (mode : ℕ) (user : List ℕ) (most : ℕ) (numbers : Numbers) → most ≡ row mode .most → numbers ≡ numbersOf (row mode) → length user / 256 ≤ most
@@ -27,7 +28,7 @@ module _ (mode E : ℕ) (s : Sender) (user commands lane : List ℕ) (most : ℕ
       ∷ 3 when not (stateFits (numbers .parities) (numbers .fills) E s)
       ∷ 4 when not (eqb (length user % 256) 0)
       ∷ 5 when ltb most (length user / 256)
-      ∷ 6 when not (eqb (length commands) (length user / 256) && commandsFit (numbers .commands) commands)
+      ∷ 6 when not (eqb (length commands) (length user / 256) && allBelow (numbers .commands) commands)
       ∷ 7 when ltb (length lane) (numbers .octets * (length user / 256))
       ∷ []
       )

@@ -3,8 +3,9 @@ ghost use mathlib.Core.Path.{_≡_};
 ghost use mathlib.Core.Bool.{_&&_};
 ghost use lib.Dec.{eqb};
 ghost use lib.ListN.{length};
+ghost use Rattle.bits.specs.Bounds.{allBelow};
 ghost use Rattle.frame.specs.Modes.{row, numbersOf};
-ghost use Rattle.sender.specs.Refusal.{stateFits, commandsFit, refusalOf};
+ghost use Rattle.sender.specs.Refusal.{stateFits, refusalOf};
 use crate::Sender;
 use frame::modes;
 use frame::modes::Numbers;
@@ -28,28 +29,14 @@ fn state_fits(parities: u32, fills: u32, e: u32, state: Sender) -> bool
     true
 }
 
-// Whether each command is below a bound.
-fn each_fits(bound: u32, commands: &[u32]) -> bool
-    ensures { λ r. ⌜ r ≡ commandsFit bound (now (commands .entry)) ⌝ }
-{
-    let mut i = 0;
-    while i < commands.len() {
-        if commands[i] >= bound {
-            return false;
-        }
-        i += 1;
-    }
-    true
-}
-
 // Whether there is one command for each multiblock, and each fits.
 fn commands_fit(bound: u32, commands: &[u32], count: usize) -> bool
-    ensures { λ r. ⌜ r ≡ (eqb (length (now (commands .entry))) count && commandsFit bound (now (commands .entry))) ⌝ }
+    ensures { λ r. ⌜ r ≡ (eqb (length (now (commands .entry))) count && allBelow bound (now (commands .entry))) ⌝ }
 {
     if commands.len() != count {
         return false;
     }
-    each_fits(bound, commands)
+    bits::all_below(bound, commands)
 }
 
 // The lowest number that applies, or 0.

@@ -11,7 +11,7 @@ use lib.Dec.{ltb}
 use lib.ListN.{length, length-append}
 use Rattle.bits.specs.Choice.{pick}
 use Rattle.frame.specs.declared.modes.Row.{Row}
-use Rattle.text.specs.Text.{digitsOf, decimal, nameOf, headLine, releaseLine}
+use Rattle.text.specs.Text.{digitsOf, decimal, refusedLine, nameOf, headLine, releaseLine}
 use Rattle.text.specs.inner.Wrote.{field}
 
 -- ---- digits
@@ -72,7 +72,7 @@ width-more n h k = sym (ap length (last-digit n h k) ∙ length-append (decimal 
 
 -- ---- fields and lines
 
-field-length : (n end : ℕ) → length (field n end) ≡ length (decimal n) + 1
+pub field-length : (n end : ℕ) → length (field n end) ≡ length (decimal n) + 1
 field-length n end = length-append (decimal n) (end ∷ [])
 
 pub line-length : (k status place pattern : ℕ)
@@ -103,3 +103,7 @@ head-length R E received released =
       field-length received 32,
       field-length released 10,
     )
+
+pub refusal-length : (n : ℕ) → length (refusedLine n) ≡ 8 + length (decimal n) + 1
+unfolding refusedLine
+refusal-length n = omega (arith, field-length n 10)

@@ -4,4 +4,6 @@ pub mod Names
 pub mod Wrote
 pub mod Releases
 pub mod Refusals
+pub mod Told
+pub mod Events
 pub mod Short

@@ -1,21 +1,25 @@
 -- What a call that writes a listing answers, line by line of its table: document 01, "Numbers of refusal". Assumes nothing.
 use mathlib.Core.Path.{_≡_, refl, sym, ap, _∙_}
-use mathlib.Core.Bool.{true, false, not, _&&_}
+use mathlib.Core.Bool.{Bool, true, false, not, _&&_}
 use mathlib.Core.List.{List, [], _∷_}
 use Prim.Native.Nat.{ℕ, _+_, _≤_, _<_}
 use native.Mathlib.Omega.{arith}
 use borrow.Author.Tests.{not-false, le-ltb, lt-ltb, eq-eqb, ne-eqb, eqb-true}
 use lib.Dec.{ltb, eqb}
 use lib.ListN.{length}
+use Rattle.bits.specs.Bounds.{allBelow}
 use Rattle.bits.specs.Order.{laid}
 use Rattle.bits.specs.Refusals.{Line, _when_, refusalBy}
 use Rattle.bits.proofs.Choice.{pick-both, both-true, parts-true}
 use Rattle.bits.proofs.Laid.{length-laid}
 use Rattle.bits.proofs.Refusals.{given, passed, none-left}
 use Rattle.frame.specs.declared.modes.Row.{Row}
-use Rattle.frame.specs.Modes.{mostOfAll}
+use Rattle.frame.specs.declared.modes.Numbers.{Numbers}
+use Rattle.frame.specs.Modes.{flaggedBound, row, numbersOf, mostOfAll}
+use Rattle.commands.specs.Writing.{channelWords}
 use Rattle.text.specs.Text.{textOf}
 use Rattle.text.specs.Writing.{Done, done, answerOf, roomOver, refusals, written}
+use Rattle.text.specs.Messages.{messagesText, messagesRefusals, messagesWritten}
 use Rattle.text.specs.inner.Wrote.{Wrote}
 use Rattle.text.proofs.Wrote.{wrote-laid}
 
@@ -99,3 +103,42 @@ module _ (R : Row) (E received : ℕ) (s p q text : List ℕ) where
         let new = textOf R E received s p q in
         answered _ (refusals (length s) (length p) (length q) new text) new text refl
         (passed 5 _ _ (le-ltb mostOfAll (length s) h) ∙ passed-alike (length s) (length p) (length q) _ e f)
+
+-- ---- by the commands
+
+module _ (mode E received : ℕ) (commands text : List ℕ) (n : ℕ) (words : n ≡ channelWords mode) where
+  abbrev new : List ℕ
+  new = messagesText mode E received commands
+
+  pub no-channel : n ≡ 0 → done (record { refusal = 1; count = 0 }) text ≡ messagesWritten mode E received commands text
+  unfolding messagesWritten
+  no-channel z =
+      answered 1 (messagesRefusals mode commands new text) new text (refused 1 new text (λ e. absurd (omega arith)))
+      (given 1 _ _ (eq-eqb (channelWords mode) 0 (sym words ∙ z)))
+
+  module _ (some : n ≡ 0 → ⊥) where
+    past-channel : (lines : List Line) → refusalBy lines ≡ refusalBy (1 when eqb (channelWords mode) 0 ∷ lines)
+    past-channel lines = passed 1 (eqb (channelWords mode) 0) lines (ne-eqb (channelWords mode) 0 (λ z. some (words ∙ z)))
+
+    pub too-many-commands : mostOfAll < length commands → done (record { refusal = 5; count = 0 }) text ≡ messagesWritten mode E received commands text
+    unfolding messagesWritten
+    too-many-commands h =
+        answered 5 (messagesRefusals mode commands new text) new text (refused 5 new text (λ e. absurd (omega arith)))
+        (given 5 _ _ (lt-ltb mostOfAll (length commands) h) ∙ past-channel _)
+
+    module _ (few : length commands ≤ mostOfAll) (R : Row) (own : R ≡ row mode) (numbers : Numbers) (follow : numbers ≡ numbersOf R) where
+      below : {t : Bool} → allBelow (numbers .flagged) commands ≡ t → not (allBelow (flaggedBound (row mode .sync)) commands) ≡ not t
+      below e = ap not (sym (ap (λ (N : Numbers). allBelow (N .flagged) commands) follow ∙ ap (λ (S : Row). allBelow (flaggedBound (S .sync)) commands) own) ∙ e)
+
+      pub command-wide : allBelow (numbers .flagged) commands ≡ false → done (record { refusal = 6; count = 0 }) text ≡ messagesWritten mode E received commands text
+      unfolding messagesWritten
+      command-wide e =
+          answered 6 (messagesRefusals mode commands new text) new text (refused 6 new text (λ z. absurd (omega arith)))
+          (given 6 _ _ (below e) ∙ passed 5 _ _ (le-ltb mostOfAll (length commands) few) ∙ past-channel _)
+
+      -- a list that is read: all that is asked is the room
+      pub list-taken : allBelow (numbers .flagged) commands ≡ true → roomOver new text ≡ messagesWritten mode E received commands text
+      unfolding messagesWritten
+      list-taken e =
+          answered _ (messagesRefusals mode commands new text) new text refl
+          (passed 6 _ _ (below e) ∙ passed 5 _ _ (le-ltb mostOfAll (length commands) few) ∙ past-channel _)

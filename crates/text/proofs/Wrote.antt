@@ -1,14 +1,16 @@
 -- Lists written one after the other: what was written, what is written next, and the room for it. Assumes nothing.
 use mathlib.Core.Path.{_≡_, refl, sym, ap, ap₂, _∙_, subst}
 use mathlib.Core.List.{List, [], _∷_, _++_}
-use Prim.Native.Nat.{ℕ, suc, _+_, _≤_, _<_}
+use Prim.Native.Nat.{ℕ, _+_, _≤_, _<_}
+use native.Mathlib.Numerals.{add-one}
 use native.Mathlib.Omega.{arith}
 use lib.ListN.{length, getD, take, length-append}
-use lib.Seq.{sets, take-suc}
+use lib.Seq.{sets, take-suc, take-all, length-take-le}
 use Rattle.bits.specs.Order.{laid, laidAt}
 use Rattle.bits.proofs.Laid.{laid-start}
 use Rattle.bits.proofs.Writing.{stored, length-laidAt, laidAt-none, laidAt-then}
-use Rattle.text.specs.inner.Wrote.{Wrote}
+use Rattle.text.specs.Text.{refusedLine}
+use Rattle.text.specs.inner.Wrote.{Wrote, field}
 
 -- octets stored one by one
 pub wrote-stored : (new old : List ℕ) (at : ℕ) → at + length new ≤ length old → Wrote new at old (at + length new) (sets old at new)
@@ -38,12 +40,17 @@ wrote-then {xs} {ys} {old} {mid} {text} {at} {next} {end} a b =
 pub wrote-is : {xs ys old text : List ℕ} {at next : ℕ} → xs ≡ ys → Wrote xs at old next text → Wrote ys at old next text
 wrote-is {old = old} {text = text} {at = at} {next = next} e w = subst (λ (x : List ℕ). Wrote x at old next text) e w
 
--- the octets of a list one by one, from the start
-pub wrote-more : {old mid text : List ℕ} {at next : ℕ} (l : List ℕ) → at < length l → Wrote (take at l) 0 old at mid → Wrote (getD l at 0 ∷ []) at mid next text
-    → Wrote (take next l) 0 old next text
-wrote-more {old} {text = text} {at = at} {next = next} l h a b =
-    let ends : next ≡ suc at = omega (arith, b .place) in
-    subst (λ (k : ℕ). Wrote (take k l) 0 old next text) (sym ends) (wrote-is (sym (take-suc l at 0 h)) (wrote-then a b))
+-- the octets of a list one by one: the next, and the room for it
+module _ (l : List ℕ) {k : ℕ} (h : k < length l) {old mid : List ℕ} {at next : ℕ} (w : Wrote (take k l) at old next mid) where
+  pub wrote-more : {text : List ℕ} {end : ℕ} → Wrote (getD l k 0 ∷ []) next mid end text → Wrote (take (k + 1) l) at old end text
+  wrote-more v = wrote-is (sym (ap (λ (j : ℕ). take j l) (add-one k) ∙ take-suc l k 0 h)) (wrote-then w v)
+
+  pub room-more : at + length l ≤ length old → next < length mid
+  room-more room = omega (arith, w .place, length-take-le k l (omega arith), wrote-length w)
+
+-- and all of them
+pub wrote-all : {l old text : List ℕ} {k at next : ℕ} → length l ≤ k → Wrote (take k l) at old next text → Wrote l at old next text
+wrote-all {l} {k = k} h w = wrote-is (take-all k l h) w
 
 -- ---- room for two lists is room for the first, and then for the second
 
@@ -62,3 +69,9 @@ pub wrote-laid : {new old text : List ℕ} {next : ℕ} → Wrote new 0 old next
 wrote-laid {new} {old} w =
     let room : 0 + length new ≤ length old = w .fits in
     (omega (arith, w .place), w .holds ∙ laid-start new old (omega arith))
+
+-- the line of a refusal: its letters, and its number
+pub wrote-refusal : {old mid text : List ℕ} {at next end : ℕ} (n : ℕ) → Wrote (114 ∷ 101 ∷ 102 ∷ 117 ∷ 115 ∷ 101 ∷ 100 ∷ 32 ∷ []) at old next mid → Wrote (field n 10) next mid end text
+    → Wrote (refusedLine n) at old end text
+unfolding refusedLine
+wrote-refusal n a b = wrote-then a b

@@ -25,6 +25,10 @@ spaced n = decimal n ++ (32 ∷ [])
 abbrev pub ended : ℕ → List ℕ
 ended n = decimal n ++ (10 ∷ [])
 
+-- "refused ", the number, and the end of the line
+unfoldable pub refusedLine : ℕ → List ℕ
+refusedLine n = 114 ∷ 101 ∷ 102 ∷ 117 ∷ 115 ∷ 101 ∷ 100 ∷ 32 ∷ ended n
+
 -- "crc12", "fec", "crc3" or "cmd" (request 5)
 abbrev pub syncName : Sync → List ℕ
 syncName Crc12 = 99 ∷ 114 ∷ 99 ∷ 49 ∷ 50 ∷ []

@@ -1,2 +1,3 @@
 -- What private functions promise to each other. No public promise cites it.
 pub mod Wrote
+pub mod Tellable

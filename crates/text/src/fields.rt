@@ -17,7 +17,7 @@ fn digit(n: u32) -> u8
 }
 
 // How many digits a number has.
-fn width(n: u32) -> usize
+pub(crate) fn width(n: u32) -> usize
     ensures { λ r. ⌜ (r ≡ length (decimal n)) × (r ≤ 20) ⌝ }
 {
     if n < 10 {
@@ -26,7 +26,7 @@ fn width(n: u32) -> usize
     width(n / 10) + 1
 }
 
-fn put_octet(text: &mut [u8], at: usize, octet: u8) -> usize
+pub(crate) fn put_octet(text: &mut [u8], at: usize, octet: u8) -> usize
     requires { ⌜ at < length (now text) ⌝ }
     ensures { λ r. ⌜ Wrote (octet ∷ []) at (now (text .entry)) r (now (text .exit)) ⌝ }
 {
@@ -34,7 +34,7 @@ fn put_octet(text: &mut [u8], at: usize, octet: u8) -> usize
     at + 1
 }
 
-fn put_decimal(text: &mut [u8], at: usize, n: u32) -> usize
+pub(crate) fn put_decimal(text: &mut [u8], at: usize, n: u32) -> usize
     requires { ⌜ at + length (decimal n) ≤ length (now text) ⌝ }
     ensures { λ r. ⌜ Wrote (decimal n) at (now (text .entry)) r (now (text .exit)) ⌝ }
 {
@@ -45,8 +45,22 @@ fn put_decimal(text: &mut [u8], at: usize, n: u32) -> usize
     put_octet(text, next, digit(n % 10))
 }
 
+// Letters, one after the other.
+pub(crate) fn put_letters(text: &mut [u8], at: usize, letters: &[u8]) -> usize
+    requires { ⌜ at + length (now letters) ≤ length (now text) ⌝ }
+    ensures { λ r. ⌜ Wrote (now (letters .entry)) at (now (text .entry)) r (now (text .exit)) ⌝ }
+{
+    let mut next = at;
+    let mut k = 0;
+    while k < letters.len() {
+        next = put_octet(text, next, letters[k]);
+        k += 1;
+    }
+    next
+}
+
 // A number, and the octet that ends it.
-fn put_field(text: &mut [u8], at: usize, n: u32, end: u8) -> usize
+pub(crate) fn put_field(text: &mut [u8], at: usize, n: u32, end: u8) -> usize
     requires { ⌜ at + length (field n end) ≤ length (now text) ⌝ }
     ensures { λ r. ⌜ Wrote (field n end) at (now (text .entry)) r (now (text .exit)) ⌝ }
 {
@@ -92,11 +106,7 @@ fn put_sync(text: &mut [u8], row: Row) -> usize
     let letters = letters_of(sync);
     let count = letters.count;
     let octets = letters.octets;
-    let mut at: usize = 0;
-    while at < count {
-        at = put_octet(text, at, octets[at]);
-    }
-    at
+    put_letters(text, 0, &octets[..count])
 }
 
 // Where blocks have gaps, the bits of a block.

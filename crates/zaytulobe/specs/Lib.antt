@@ -2,6 +2,7 @@
 pub mod Receiving
 pub mod Locking
 pub mod Running
+pub mod Events
 pub mod Receivers
 pub mod Locks
 pub mod Bool

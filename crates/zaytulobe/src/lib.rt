@@ -4,6 +4,7 @@ ghost use Rattle.sender.specs.Lane.{fresh};
 ghost use Rattle.sender.specs.Entry.{done as sendDone, entry};
 ghost use Rattle.text.specs.Writing.{done as listDone};
 ghost use Rattle.capture.specs.Listing.{listed};
+ghost use Rattle.capture.specs.Messages.{told};
 ghost use Rattle.zaytulobe.specs.Running.{longestNumbers};
 use sender::Sender;
 use sender::Sent;
@@ -11,6 +12,7 @@ use text::Listed;
 
 pub mod locking;
 pub mod locks;
+pub mod messages;
 pub mod receivers;
 pub mod receiving;
 
@@ -72,4 +74,12 @@ pub extern "C" fn zaytulobe_listing(capture: &[u8], text: &mut [u8]) -> Listed
     ensures { λ r. ⌜ listDone r (now (text .exit)) ≡ listed (now (capture .entry)) (now (text .entry)) ⌝ }
 {
     capture::listing(capture, text)
+}
+
+// What is told of the messages in a capture, over the start of `text`.
+#[no_mangle]
+pub extern "C" fn zaytulobe_messages(capture: &[u8], text: &mut [u8]) -> Listed
+    ensures { λ r. ⌜ listDone r (now (text .exit)) ≡ told (now (capture .entry)) (now (text .entry)) ⌝ }
+{
+    capture::messages(capture, text)
 }

@@ -6,9 +6,9 @@ use mathlib.Core.Bool.{not}
 use native.Mathlib.Omega.{arith}
 use borrow.Author.Tests.{not-false}
 use Rattle.frame.specs.declared.modes.Numbers.{Numbers}
-use Rattle.frame.specs.Modes.{extentFits}
+use Rattle.frame.specs.Modes.{known, extentFits}
 use Rattle.frame.proofs.Sizes.{octets-some}
-use Rattle.capture.specs.Form.{modeOf}
+use Rattle.capture.specs.Form.{modeOf, refusalOf}
 use Rattle.capture.proofs.Refusals.{formed-length, refused-8, refused-1, refused-2, refused-4, not-refused}
 use Rattle.capture.proofs.form.refusal_of.Statement.{statement}
 use Rattle.capture.proofs.form.refusal_of.Tie as tie
@@ -17,7 +17,8 @@ well-formed-requires : tie.Need-well-formed-requires
 well-formed-requires c κs = search needs
 
 returns : tie.Need-returns
-returns c = refused-8 (c .before .before .before .args .capture .now) (ap not (sym (c .before .well-formed .ensures)) ∙ c .if1 .taken)
+unfolding refusalOf
+returns c = refused-8 known (c .before .before .before .args .capture .now) (ap not (sym (c .before .well-formed .ensures)) ∙ c .if1 .taken)
 
 octet-at-requires : tie.Need-octet-at-requires
 octet-at-requires c κs = search needs
@@ -26,8 +27,8 @@ known-requires : tie.Need-known-requires
 known-requires c κs = search needs
 
 returns-2 : tie.Need-returns-2
-unfolding modeOf
-returns-2 c = refused-1 (c .before .before .before .before .before .before .args .capture .now) (ap not (sym (c .before .before .before .before .well-formed .ensures)) ∙ c .before .before .before .if1 .left) _ (c .before .before .octet-at .ensures) (ap not (sym (c .before .known .ensures)) ∙ c .if2 .taken)
+unfolding modeOf refusalOf
+returns-2 c = refused-1 known (c .before .before .before .before .before .before .args .capture .now) (ap not (sym (c .before .before .before .before .well-formed .ensures)) ∙ c .before .before .before .if1 .left) _ (c .before .before .octet-at .ensures) (ap not (sym (c .before .known .ensures)) ∙ c .if2 .taken)
 
 extent-of-requires : tie.Need-extent-of-requires
 extent-of-requires c κs = search needs
@@ -36,8 +37,8 @@ extent-fits-requires : tie.Need-extent-fits-requires
 extent-fits-requires c κs = search needs
 
 returns-3 : tie.Need-returns-3
-unfolding modeOf
-returns-3 c = refused-2 (c .before .before .before .before .before .before .before .before .before .args .capture .now) (ap not (sym (c .before .before .before .before .before .before .before .well-formed .ensures)) ∙ c .before .before .before .before .before .before .if1 .left) _ (c .before .before .before .before .before .octet-at .ensures) (ap not (sym (c .before .before .before .before .known .ensures)) ∙ c .before .before .before .if2 .left) (ap not (sym (c .before .extent-fits .ensures ∙ ap extentFits (c .before .before .extent-of .ensures))) ∙ c .if3 .taken)
+unfolding modeOf refusalOf
+returns-3 c = refused-2 known (c .before .before .before .before .before .before .before .before .before .args .capture .now) (ap not (sym (c .before .before .before .before .before .before .before .well-formed .ensures)) ∙ c .before .before .before .before .before .before .if1 .left) _ (c .before .before .before .before .before .octet-at .ensures) (ap not (sym (c .before .before .before .before .known .ensures)) ∙ c .before .before .before .if2 .left) (ap not (sym (c .before .extent-fits .ensures ∙ ap extentFits (c .before .before .extent-of .ensures))) ∙ c .if3 .taken)
 
 row-of-requires : tie.Need-row-of-requires
 row-of-requires c κs = search needs
@@ -52,12 +53,12 @@ rem-if4 : tie.Need-rem-if4
 rem-if4 c = omega (arith, ap (λ (N : Numbers). N .octets) (c .before .numbers-of .ensures), octets-some (c .before .before .row-of .result .gap))
 
 returns-4 : tie.Need-returns-4
-unfolding modeOf
-returns-4 c = refused-4 (c .before .before .before .before .before .before .before .before .before .before .before .before .before .args .capture .now) (ap not (sym (c .before .before .before .before .before .before .before .before .before .before .before .well-formed .ensures)) ∙ c .before .before .before .before .before .before .before .before .before .before .if1 .left) _ (c .before .before .before .before .before .before .before .before .before .octet-at .ensures) (ap not (sym (c .before .before .before .before .before .before .before .before .known .ensures)) ∙ c .before .before .before .before .before .before .before .if2 .left) (ap not (sym (c .before .before .before .before .before .extent-fits .ensures ∙ ap extentFits (c .before .before .before .before .before .before .extent-of .ensures))) ∙ c .before .before .before .before .if3 .left) _ (c .before .before .before .row-of .ensures) _ (c .before .before .numbers-of .ensures) (c .if4 .taken)
+unfolding modeOf refusalOf
+returns-4 c = refused-4 known (c .before .before .before .before .before .before .before .before .before .before .before .before .before .args .capture .now) (ap not (sym (c .before .before .before .before .before .before .before .before .before .before .before .well-formed .ensures)) ∙ c .before .before .before .before .before .before .before .before .before .before .if1 .left) _ (c .before .before .before .before .before .before .before .before .before .octet-at .ensures) (ap not (sym (c .before .before .before .before .before .before .before .before .known .ensures)) ∙ c .before .before .before .before .before .before .before .if2 .left) (ap not (sym (c .before .before .before .before .before .extent-fits .ensures ∙ ap extentFits (c .before .before .before .before .before .before .extent-of .ensures))) ∙ c .before .before .before .before .if3 .left) _ (c .before .before .before .row-of .ensures) _ (c .before .before .numbers-of .ensures) (c .if4 .taken)
 
 returns-5 : tie.Need-returns-5
-unfolding modeOf
-returns-5 c = not-refused (c .before .before .before .before .before .before .before .before .before .before .before .before .before .args .capture .now) (ap not (sym (c .before .before .before .before .before .before .before .before .before .before .before .well-formed .ensures)) ∙ c .before .before .before .before .before .before .before .before .before .before .if1 .left) _ (c .before .before .before .before .before .before .before .before .before .octet-at .ensures) (ap not (sym (c .before .before .before .before .before .before .before .before .known .ensures)) ∙ c .before .before .before .before .before .before .before .if2 .left) (ap not (sym (c .before .before .before .before .before .extent-fits .ensures ∙ ap extentFits (c .before .before .before .before .before .before .extent-of .ensures))) ∙ c .before .before .before .before .if3 .left) _ (c .before .before .before .row-of .ensures) _ (c .before .before .numbers-of .ensures) (c .if4 .left)
+unfolding modeOf refusalOf
+returns-5 c = not-refused known (c .before .before .before .before .before .before .before .before .before .before .before .before .before .args .capture .now) (ap not (sym (c .before .before .before .before .before .before .before .before .before .before .before .well-formed .ensures)) ∙ c .before .before .before .before .before .before .before .before .before .before .if1 .left) _ (c .before .before .before .before .before .before .before .before .before .octet-at .ensures) (ap not (sym (c .before .before .before .before .before .before .before .before .known .ensures)) ∙ c .before .before .before .before .before .before .before .if2 .left) (ap not (sym (c .before .before .before .before .before .extent-fits .ensures ∙ ap extentFits (c .before .before .before .before .before .before .extent-of .ensures))) ∙ c .before .before .before .before .if3 .left) _ (c .before .before .before .row-of .ensures) _ (c .before .before .numbers-of .ensures) (c .if4 .left)
 
 pub refusal-of-spec : {M : Type 1} → statement M
 refusal-of-spec =

@@ -6,7 +6,7 @@ use Rattle.frame.specs.declared.modes.Sync.{Sync}
 use Rattle.frame.specs.declared.modes.Row.{Row}
 use Rattle.frame.specs.declared.modes.Numbers.{Numbers}
 use Rattle.frame.specs.Lane.{blockWidth, laneOctets, fillBound}
-use Rattle.frame.specs.Modes.{before, own, parityWidth, commandWidth, flaggedBound, repairs, numbersOf}
+use Rattle.frame.specs.Modes.{before, own, parityWidth, commandWidth, commandWords, flaggedBound, repairs, numbersOf}
 use borrow.Author.Needs.{needs}
 use Rattle.frame.proofs.modes.numbers_of.Statement.{statement}
 use Rattle.frame.proofs.modes.numbers_of.Tie as tie
@@ -17,6 +17,7 @@ numbersBy R S fills = record {
   owns = 2 ^ parityWidth S own;
   commands = 2 ^ commandWidth S;
   flagged = flaggedBound S;
+  words = commandWords S;
   fills = fills;
   octets = laneOctets (R .gap);
   width = blockWidth (R .gap);

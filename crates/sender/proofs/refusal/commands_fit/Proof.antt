@@ -9,11 +9,11 @@ use Rattle.sender.proofs.refusal.commands_fit.Tie as tie
 returns : tie.Need-returns
 returns c = simp (ne-eqb _ _ (c .if1 .taken))
 
-each-fits-requires : tie.Need-each-fits-requires
-each-fits-requires c κs = search needs
+all-below-requires : tie.Need-all-below-requires
+all-below-requires c κs = search needs
 
 returns-2 : tie.Need-returns-2
-returns-2 c = c .each-fits .ensures ∙ simp (eq-eqb _ _ (c .before .if1 .left))
+returns-2 c = c .all-below .ensures ∙ simp (eq-eqb _ _ (c .before .if1 .left))
 
 pub commands-fit-spec : {M : Type 1} → statement M
-commands-fit-spec = tie.close (tie.spec returns each-fits-requires returns-2)
+commands-fit-spec = tie.close (tie.spec returns all-below-requires returns-2)

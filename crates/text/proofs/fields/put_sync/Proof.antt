@@ -1,61 +1,39 @@
--- `text::fields::put_sync` meets its contract. The loop's invariant: the letters before `at` are written.
+-- `text::fields::put_sync` meets its contract.
 -- Assumes nothing.
-use borrow.Author.Needs.{needs}
-use mathlib.Core.Path.{_≡_, ap, _∙_}
-use Prim.Native.Nat.{ℕ, _-_, _≤_}
+use mathlib.Core.Path.{sym, ap}
 use native.Mathlib.Omega.{arith}
-use lib.ListN.{take}
-use Rattle.text.specs.inner.Wrote.{Wrote}
-use Rattle.text.proofs.Wrote.{wrote-none, wrote-more, wrote-is, wrote-length}
+use lib.ListN.{length}
+use lib.Seq.{length-take-le}
+use Rattle.text.proofs.Wrote.{wrote-is}
+use borrow.Author.Needs.{needs}
 use Rattle.text.proofs.fields.put_sync.Statement.{statement}
 use Rattle.text.proofs.fields.put_sync.Tie as tie
 
-abbrev Inv-loop : tie.InvT-loop
-Inv-loop text₀ count octets at₀ text at = (at ≤ count) × Wrote (take at octets) 0 text₀ at text
-
-abbrev μ-loop : tie.MeasureT-loop
-μ-loop text₀ count octets at₀ text at = count - at
-
-letters-of-requires : tie.Need-letters-of-requires Inv-loop μ-loop
+letters-of-requires : tie.Need-letters-of-requires
 letters-of-requires c κs = search needs
 
-loop-holds : tie.Need-loop-holds Inv-loop μ-loop
-loop-holds c = (search needs, wrote-none 0 (c .before .before .before .args .text .now) (omega arith))
+array-share-prefix-octets : tie.Need-array-share-prefix-octets
+array-share-prefix-octets c = search needs
 
-array-read-put-octet : tie.Need-array-read-put-octet Inv-loop μ-loop
-array-read-put-octet c = search needs
+slice-aggregate-put-letters : tie.Need-slice-aggregate-put-letters
+slice-aggregate-put-letters c = sym (length-take-le _ _ (omega arith))
 
-put-octet-requires : tie.Need-put-octet-requires Inv-loop μ-loop
-put-octet-requires c κs = omega (arith, wrote-length (c .before .before .loop .inv .1), c .before .before .before .before .letters-of .ensures .0, c .before .before .before .before .before .before .pre)
+put-letters-requires : tie.Need-put-letters-requires
+put-letters-requires c κs = omega (arith, ap length (c .before .before .before .letters-of .ensures .3), c .before .before .before .before .before .pre)
 
-loop-less : tie.Need-loop-less Inv-loop μ-loop
-loop-less c = omega (arith, c .before .before .put-octet .ensures .place)
+same-length : tie.Need-same-length
+same-length c = search needs
 
-loop-again : tie.Need-loop-again Inv-loop μ-loop
-loop-again c =
-    let octets = c .before .before .before .before .before .before .before .letters-of .result .octets in
-    (omega (arith, c .before .before .put-octet .ensures .place), wrote-more octets (omega (arith, c .before .before .before .before .before .before .before .letters-of .ensures .2)) (c .before .before .before .before .before .loop .inv .1) (c .before .before .put-octet .ensures))
-
-same-length : tie.Need-same-length Inv-loop μ-loop
-same-length c = wrote-length (c .before .loop .inv .1)
-
-returns : tie.Need-returns Inv-loop μ-loop
-returns c =
-    let letters = c .before .before .before .letters-of in
-    let all : c .before .loop .at ≡ letters .result .count = omega arith in
-    wrote-is (ap (λ (k : ℕ). take k (letters .result .octets)) all ∙ letters .ensures .3) (c .before .loop .inv .1)
+returns : tie.Need-returns
+returns c = wrote-is (c .before .before .before .before .before .before .letters-of .ensures .3) (c .before .before .put-letters .ensures)
 
 pub put-sync-spec : {M : Type 1} → statement M
 put-sync-spec =
     tie.close
     (tie.spec
-    Inv-loop
-    μ-loop
     letters-of-requires
-    loop-holds
-    array-read-put-octet
-    put-octet-requires
-    loop-less
-    loop-again
+    array-share-prefix-octets
+    slice-aggregate-put-letters
+    put-letters-requires
     same-length
     returns)
