@@ -1,10 +1,11 @@
 /* The constants of include/zaytulobe.h are the library's: beside each stands what the functions make of it, and of the number next
    to it where it is an edge. Document 01, "Numbers of refusal", "What the receiver releases" and "Capture and listing"; document 02,
-   request 2, for modes 2 and 3, and request 5 for modes 4 and 5. constants.txt has the lines expected. */
+   request 2, for modes 2 and 3, request 5 for modes 4 and 5, and request 6 for messages. constants.txt has the lines expected. */
 #include "lane.h"
 
 static struct releases out;
-static u8 capture[ZAYTULOBE_LONGEST_OF_ALL + 2], text[ZAYTULOBE_LONGEST_TEXT];
+static u8 capture[ZAYTULOBE_LONGEST_OF_ALL + 2], text[ZAYTULOBE_LONGEST_TEXT], messages[ZAYTULOBE_LONGEST_MESSAGES];
+static u32 list[ZAYTULOBE_MOST_WORDS + 2];
 
 /* A constant's name and number, by the header; what follows on the line is by the library. */
 #define NAMED(constant) printf("%s %lu: ", #constant, (u64)(constant))
@@ -27,13 +28,28 @@ static int received(u8 mode, size octets) {
         out.commands, room, out.places, room, out.patterns, room, out.invalid, room).refusal;
 }
 
-/* A capture of so many octets whose counts are right, and its listing in a text of so many. */
-static struct zaytulobe_listed listed(u8 mode, u32 e, size octets, size room) {
+/* A capture of so many octets whose counts are right. */
+static void put_head(u8 mode, u32 e, size octets) {
     size count = octets - HEAD;
     u8 head[HEAD] = {0, 0, 0, 3, mode, (u8)(e >> 8), (u8)e, 0, (u8)(count >> 16), (u8)(count >> 8), (u8)count};
     for (size k = 0; k < HEAD; k++)
         capture[k] = head[k];
+}
+
+/* Its listing, or its messages, in a text of so many octets. */
+static struct zaytulobe_listed listed(u8 mode, u32 e, size octets, size room) {
+    put_head(mode, e, octets);
     return zaytulobe_listing(capture, octets, text, room);
+}
+
+static struct zaytulobe_listed told(u8 mode, u32 e, size octets, size room) {
+    put_head(mode, e, octets);
+    return zaytulobe_messages(capture, octets, messages, room);
+}
+
+static int written(u8 mode, u8 code, size words) {
+    static const u8 payload[ZAYTULOBE_MOST_WORDS + 1];
+    return zaytulobe_write_message(mode, code, payload, words, list, sizeof list / sizeof list[0]).refusal;
 }
 
 static void print_listed(u8 mode) {
@@ -60,6 +76,9 @@ static void run_modes(void) {
     print_answer(", receiver", next, received(next, 0));
     print_answer(", locks", next, zaytulobe_lock_step(next, 1, zaytulobe_fresh_lock(), 1).refusal);
     print_answer(", listing", next, listed(next, 1, HEAD, sizeof text).refusal);
+    print_answer(", writer of messages", next, written(next, 0, 0));
+    print_answer(", reader", next, zaytulobe_read_event(next, list, 0, 0).refusal);
+    print_answer(", messages", next, told(next, 1, HEAD, sizeof messages).refusal);
     printf("\n");
 }
 
@@ -231,13 +250,52 @@ static void run_text(u8 mode) {
     printf("\n");
 }
 
+static void run_most_words(void) {
+    NAMED(ZAYTULOBE_MOST_WORDS);
+    print_answer("code 31, words", ZAYTULOBE_MOST_WORDS, written(CRC12, 31, ZAYTULOBE_MOST_WORDS));
+    print_answer(",", ZAYTULOBE_MOST_WORDS + 1, written(CRC12, 31, ZAYTULOBE_MOST_WORDS + 1));
+    printf("\n");
+}
+
+/* Command 0, which is idle, is read with its padding. */
+static void run_command_words(u8 mode) {
+    static const u32 idle[1];
+    struct zaytulobe_event event = zaytulobe_read_event(mode, idle, 1, 0);
+    NAMED(ZAYTULOBE_COMMAND_WORDS(mode));
+    printf("%s, ", name_of(mode));
+    if (event.refusal == ZAYTULOBE_ACCEPTED)
+        printf("a command is read from word %lu to %lu\n", event.begin, event.next);
+    else
+        printf("a command is refused %d\n", event.refusal);
+}
+
+/* The longest text of messages that a lane brings about: each word of each command a header that isn't defined, of two digits. With
+   three headers 15 the parity bit is 0. */
+static void run_messages(void) {
+    static u32 undefined[ZAYTULOBE_MOST_MULTIBLOCKS(COMMAND)];
+    size most = most_multiblocks(COMMAND), longest = ZAYTULOBE_LONGEST_CAPTURE(COMMAND);
+    for (size k = 0; k < most; k++)
+        undefined[k] = (15 << 12 | 15 << 6 | 15) << 1;
+    zaytulobe_send(
+        COMMAND, ZAYTULOBE_MOST_E, zaytulobe_fresh_sender(), user, USER_OCTETS * most, undefined, most, lane, sizeof lane);
+    for (size k = 0; k < longest - HEAD; k++)
+        capture[HEAD + k] = lane[k];
+    size needed = told(COMMAND, ZAYTULOBE_MOST_E, longest, sizeof messages).count;
+    NAMED(ZAYTULOBE_LONGEST_MESSAGES);
+    printf("%s, of the longest that a lane brings about %lu are written; ", name_of(COMMAND), needed);
+    print_answer("room", sizeof messages, told(COMMAND, ZAYTULOBE_MOST_E, longest, sizeof messages).refusal);
+    print_answer(",", needed, told(COMMAND, ZAYTULOBE_MOST_E, longest, needed).refusal);
+    print_answer(",", needed - 1, told(COMMAND, ZAYTULOBE_MOST_E, longest, needed - 1).refusal);
+    printf("\n");
+}
+
 /* Each refusal by its name, from a call that deserves it and no lower one. */
 static void run_refusals(void) {
     struct zaytulobe_sender wide = {.history = 1UL << 58};
     NAMED(ZAYTULOBE_ACCEPTED);
     printf("%d for a multiblock\n", sent_multiblocks(FEC, 1));
     NAMED(ZAYTULOBE_REFUSED_MODE);
-    printf("%d for mode 6\n", sent(6, 1, 0, 0, 0));
+    printf("%d for mode 6, %d for an idle message in mode 1\n", sent(6, 1, 0, 0, 0), written(FEC, 0, 0));
     NAMED(ZAYTULOBE_REFUSED_E);
     printf("%d for E 0\n", sent(FEC, 0, 0, 0, 0));
     NAMED(ZAYTULOBE_REFUSED_STATE);
@@ -247,13 +305,35 @@ static void run_refusals(void) {
     NAMED(ZAYTULOBE_REFUSED_COUNT);
     printf("%d for 241 multiblocks, %d for 201 in mode 3\n", sent_multiblocks(FEC, 241), sent_multiblocks(FEC_80, 201));
     NAMED(ZAYTULOBE_REFUSED_COMMANDS);
-    printf("%d for a multiblock without a command\n", sent(FEC, 1, USER_OCTETS, 0, sizeof lane));
+    printf("%d for a multiblock without a command, %d for code 1 without a word\n", sent(FEC, 1, USER_OCTETS, 0, sizeof lane),
+        written(CRC12, 1, 0));
     NAMED(ZAYTULOBE_REFUSED_ROOM);
     printf("%d for a multiblock without room\n", sent(FEC, 1, USER_OCTETS, 1, 0));
     NAMED(ZAYTULOBE_REFUSED_CAPTURE);
     printf("%d for a capture of 1 octet\n", zaytulobe_listing(capture, 1, text, sizeof text).refusal);
     NAMED(ZAYTULOBE_REFUSED_HEADER);
     printf("%d for header 4\n", zaytulobe_lock_step(FEC, 1, zaytulobe_fresh_lock(), 4).refusal);
+    NAMED(ZAYTULOBE_REFUSED_LONG);
+    printf("%d for an idle header with a word, %d for code 7 with 8\n", written(CRC12, 0, 1), written(CRC12, 7, 8));
+    NAMED(ZAYTULOBE_REFUSED_CODE);
+    printf("%d for code 7 with 7 words\n", written(CRC12, 7, 7));
+}
+
+static int kind_of(u32 command, size count) {
+    list[0] = command;
+    return zaytulobe_read_event(CRC12, list, count, 0).kind;
+}
+
+/* Header 7 has the parity 1. */
+static void run_kinds(void) {
+    NAMED(ZAYTULOBE_NOTHING);
+    printf("%d of no command\n", kind_of(0, 0));
+    NAMED(ZAYTULOBE_MESSAGE);
+    printf("%d of an idle header\n", kind_of(0, 1));
+    NAMED(ZAYTULOBE_CUT);
+    printf("%d of an idle header with a wrong parity bit\n", kind_of(1, 1));
+    NAMED(ZAYTULOBE_UNDEFINED);
+    printf("%d of header 7\n", kind_of(7 << 1 | 1, 1));
 }
 
 /* Multiblock 1 has a burst of 9, multiblocks 3 and 4 have one of 10 each. */
@@ -316,8 +396,13 @@ int main(void) {
     run_captures();
     run_text(FEC);
     run_text(FEC_80);
+    run_most_words();
+    for (u8 mode = 0; mode < MODES; mode++)
+        run_command_words(mode);
+    run_messages();
     run_refusals();
     run_statuses();
     run_phases();
+    run_kinds();
     return 0;
 }

@@ -234,6 +234,25 @@ static void run_answers(void) {
     printf("; of 1 octet: refusal %d, count %lu\n", listed.refusal, listed.count);
 }
 
+/* No two numbers of the event are the same: a message of seven words behind three idle commands, read from the padding of the
+   third. */
+static void run_events(void) {
+    static const u8 payload[ZAYTULOBE_MOST_WORDS] = {11, 12, 13, 14, 15, 16, 17};
+    static u32 list[6];
+    struct zaytulobe_written written = zaytulobe_write_message(COMMAND, 22, payload, ZAYTULOBE_MOST_WORDS, list + 3, 3);
+    printf("written, code 22, 7 words, CMD: refusal %d, count %lu", written.refusal, written.count);
+    written = zaytulobe_write_message(COMMAND, 7, payload, ZAYTULOBE_MOST_WORDS, list, 3);
+    printf("; code 7: refusal %d, count %lu\n", written.refusal, written.count);
+    struct zaytulobe_event event = zaytulobe_read_event(COMMAND, list, 6, 7);
+    printf("event, from 7: refusal %d, kind %d, code %d, words", event.refusal, event.kind, event.code);
+    for (int k = 0; k < ZAYTULOBE_MOST_WORDS; k++)
+        printf(" %d", event.words[k]);
+    printf(", count %lu, begin %lu, next %lu", event.count, event.begin, event.next);
+    event = zaytulobe_read_event(FEC, list, 6, 7);
+    printf("; FEC: refusal %d, kind %d, code %d, count %lu, begin %lu, next %lu\n", event.refusal, event.kind, event.code,
+        event.count, event.begin, event.next);
+}
+
 int main(void) {
     run_sender();
     run_sent(CRC12);
@@ -249,5 +268,6 @@ int main(void) {
     run_header_lock();
     run_extended_lock();
     run_answers();
+    run_events();
     return 0;
 }
