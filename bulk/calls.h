@@ -108,6 +108,14 @@ static u16 draw_own(u8 as) {
     return draw(8) == 0 ? edges[draw(5)] : any;
 }
 
+static u32 draw_releases(void) {
+    static const u32 edges[5] = {0, 1, 4294967293, 4294967294, 4294967295};
+    if (draw(2) == 0)
+        return edges[draw(5)];
+    u32 high = (u32)draw(1 << 16);
+    return high << 16 | (u32)draw(1 << 16);
+}
+
 static struct zaytulobe_receiver draw_any_receiver(u8 as) {
     static const u8 waits[8] = {0, 0, 0, 1, 1, 1, 1, 1};
     struct zaytulobe_receiver state;
@@ -122,6 +130,9 @@ static struct zaytulobe_receiver draw_any_receiver(u8 as) {
     draw_octets(state.octets, USER_OCTETS);
     state.invalid = draw_invalid_count();
     state.own = draw_own(as);
+    state.sound = draw_releases();
+    state.repaired = draw_releases();
+    state.failed = draw_releases();
     return state;
 }
 
@@ -130,7 +141,7 @@ static struct zaytulobe_receiver draw_receiver(u8 as) {
     memset(&none, 0, sizeof none);
     if (any.waiting != 0)
         return any;
-    switch (draw(12)) {
+    switch (draw(15)) {
     case 0: return any;
     case 1: none.history = any.history; break;
     case 2: none.command = any.command; break;
@@ -138,6 +149,9 @@ static struct zaytulobe_receiver draw_receiver(u8 as) {
     case 4: for (int k = 0; k < USER_OCTETS; k++) none.octets[k] = any.octets[k]; break;
     case 5: none.invalid = any.invalid; break;
     case 6: none.own = any.own; break;
+    case 7: none.sound = any.sound; break;
+    case 8: none.repaired = any.repaired; break;
+    case 9: none.failed = any.failed; break;
     }
     return none;
 }
@@ -188,8 +202,9 @@ static void receive_call(u64 seed) {
     struct zaytulobe_received received = zaytulobe_receive(mode, state, lane, lane_length, octets, rooms[0], statuses, rooms[1],
         got_commands, rooms[2], places, rooms[3], patterns, rooms[4], invalid, rooms[5]);
     state = received.state;
-    printf("%lu receive %d %lu %d %lu %d %u %d %d %016lx %016lx\n", seed, received.refusal, received.count, state.waiting,
-        state.history, state.trusted, state.command, state.invalid, state.own, digest_of(state.octets, USER_OCTETS),
+    printf("%lu receive %d %lu %d %lu %d %u %d %d", seed, received.refusal, received.count, state.waiting, state.history,
+        state.trusted, state.command, state.invalid, state.own);
+    printf(" %u %u %u %016lx %016lx\n", state.sound, state.repaired, state.failed, digest_of(state.octets, USER_OCTETS),
         lent_digest(rooms));
 }
 

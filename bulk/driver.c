@@ -71,15 +71,18 @@ static u64 received_digest(const struct zaytulobe_receiver *state, size count) {
     u64 digest = with_octets(lent_digest(rooms), state->octets, USER_OCTETS);
     digest = with_number(with_number(digest, state->history), state->command);
     digest = with_octet(with_octet(with_octet(digest, state->waiting), state->trusted), state->invalid);
-    return with_number(digest, state->own);
+    digest = with_number(with_number(digest, state->own), state->sound);
+    return with_number(with_number(digest, state->repaired), state->failed);
 }
 
 static void print_received(const struct zaytulobe_receiver *state, size count) {
     for (size k = 0; k < count; k++)
         printf(" %d/%d/%d/%u/%d", statuses[k], places[k], patterns[k], got_commands[k], invalid[k]);
     struct zaytulobe_run run = zaytulobe_longest_run(octets, USER_OCTETS * count, statuses, count);
-    printf(" %016lx %d %lu %d %u %d %d %016lx %lu %lu", digest_of(octets, USER_OCTETS * count), state->waiting, state->history,
-        state->trusted, state->command, state->invalid, state->own, digest_of(state->octets, USER_OCTETS), run.start, run.count);
+    printf(" %016lx %d %lu %d %u %d %d", digest_of(octets, USER_OCTETS * count), state->waiting, state->history, state->trusted,
+        state->command, state->invalid, state->own);
+    printf(" %u %u %u %016lx %lu %lu", state->sound, state->repaired, state->failed, digest_of(state->octets, USER_OCTETS),
+        run.start, run.count);
 }
 
 static void damaged_line(u64 seed) {

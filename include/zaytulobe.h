@@ -45,7 +45,7 @@ enum zaytulobe_refusal {
     ZAYTULOBE_ACCEPTED = 0,
     ZAYTULOBE_REFUSED_MODE = 1,     /* the mode is above 5; of messages also 1 and 3, which have no command channel */
     ZAYTULOBE_REFUSED_E = 2,        /* E is outside 1 to 256 */
-    ZAYTULOBE_REFUSED_STATE = 3,    /* a field of the state is out of range */
+    ZAYTULOBE_REFUSED_STATE = 3,    /* a field of the state is out of range, or isn't 0 in a receiver's with nothing waiting */
     ZAYTULOBE_REFUSED_LENGTH = 4,   /* user octets are no multiple of 256, lane octets none of 264, or of 320 in modes 2 and 3;
                                        of the longest run, octets aren't 256 for each status */
     ZAYTULOBE_REFUSED_COUNT = 5,    /* more than 240 multiblocks in one call, or 200 in modes 2 and 3 */
@@ -145,7 +145,10 @@ struct zaytulobe_sent {
 /* The history before the multiblock that waits; its command, with the flag added if one of its headers was invalid; whether one
    waits, 0 or 1; whether the history is trusted, 0 or 1; its scrambled octets; how many of its 32 headers were invalid (00 or
    11), 0 to 32, and 0 if none waits; the parity that came with its own sync word: in mode 4 that of blocks 0 to 7, 8 to 15 and 16
-   to 23, three bits each, the first highest; 0 in every other mode, and if none waits. */
+   to 23, three bits each, the first highest; 0 in every other mode, and if none waits. Then three counts of the multiblocks
+   released so far, over all calls from a fresh state on: with status 0 or 4, with 1 or 5, with 2 or 6. A count stops at
+   4,294,967,295 and stays there. In mode 5 `sound` counts releases that were never checked. All three must be 0 if none waits,
+   and may be any if one does; what is released doesn't go by them. */
 struct zaytulobe_receiver {
     zaytulobe_u64 history;
     zaytulobe_u32 command;
@@ -154,6 +157,9 @@ struct zaytulobe_receiver {
     zaytulobe_u8 octets[ZAYTULOBE_USER_OCTETS];
     zaytulobe_u8 invalid;
     zaytulobe_u16 own;
+    zaytulobe_u32 sound;
+    zaytulobe_u32 repaired;
+    zaytulobe_u32 failed;
 };
 
 /* A refusal, or 0 with the multiblocks released; the state for the next call. */
@@ -247,8 +253,8 @@ struct zaytulobe_receiver zaytulobe_fresh_receiver(void);
 /* Receives the multiblocks of the lane, 264 octets each, or 320 in modes 2 and 3, whose fill bits are ignored. A multiblock is
    released when the next has come, in mode 5 too: release k of this call writes 256 octets from 256 k on, and place k of each
    list: its status; its command; the place and pattern of the burst that was flipped back, or 0 and 0; and how many of its own 32
-   headers were invalid, 0 to 32. All else keeps its values. The state has the number of the one that waits then. Refused by 1, 3,
-   4, 5 or 7. */
+   headers were invalid, 0 to 32. All else keeps its values. The state has the number of the one that waits then, and each release
+   adds 1 to the count of its status. Refused by 1, 3, 4, 5 or 7. */
 struct zaytulobe_received zaytulobe_receive(
     zaytulobe_u8 mode, struct zaytulobe_receiver state,
     const zaytulobe_u8 *lane, zaytulobe_size lane_length,
@@ -331,7 +337,7 @@ ZAYTULOBE_FIELD(sent, refusal, 0, 1);
 ZAYTULOBE_FIELD(sent, count, 8, 8);
 ZAYTULOBE_FIELD(sent, state, 16, 24);
 
-ZAYTULOBE_STRUCT(receiver, 280);
+ZAYTULOBE_STRUCT(receiver, 288);
 ZAYTULOBE_FIELD(receiver, history, 0, 8);
 ZAYTULOBE_FIELD(receiver, command, 8, 4);
 ZAYTULOBE_FIELD(receiver, waiting, 12, 1);
@@ -339,11 +345,14 @@ ZAYTULOBE_FIELD(receiver, trusted, 13, 1);
 ZAYTULOBE_FIELD(receiver, octets, 14, 256);
 ZAYTULOBE_FIELD(receiver, invalid, 270, 1);
 ZAYTULOBE_FIELD(receiver, own, 272, 2);
+ZAYTULOBE_FIELD(receiver, sound, 276, 4);
+ZAYTULOBE_FIELD(receiver, repaired, 280, 4);
+ZAYTULOBE_FIELD(receiver, failed, 284, 4);
 
-ZAYTULOBE_STRUCT(received, 296);
+ZAYTULOBE_STRUCT(received, 304);
 ZAYTULOBE_FIELD(received, refusal, 0, 1);
 ZAYTULOBE_FIELD(received, count, 8, 8);
-ZAYTULOBE_FIELD(received, state, 16, 280);
+ZAYTULOBE_FIELD(received, state, 16, 288);
 
 ZAYTULOBE_STRUCT(run, 24);
 ZAYTULOBE_FIELD(run, refusal, 0, 1);

@@ -18,10 +18,12 @@
 //! receive: waiting = [0, 0, 0, 1, 1, 1, 1, 1][draw(8)], rarely 2; trusted = draw(2), rarely 2; a history; a command,
 //! draw(2^(c+1)) where there are commands, rarely 2^(c+1) more, in others 0, rarely 1; 256 octets; invalid = draw(33), but if
 //! draw(4) is 0 then [0, 32, 33, 255][draw(4)]; own = draw(512) in mode 4, in others 0, but if draw(8) is 0 then [0, 1, 511,
-//! 512, 65535][draw(5)]. With nothing waiting, draw(12): 0 keeps all, 1 only the history, 2 the command, 3 trusted, 4 the
-//! octets, 5 invalid, 6 own, others none; what isn't kept becomes 0. A count; 264 lane octets for each, rarely 1 + draw(263)
-//! more, or 320 and 1 + draw(319). Lent: 256 octets for each and draw(16), and five lists, one for each and draw(3); if
-//! draw(8) is 0, number draw(6) of these six is 1 less than for each.
+//! 512, 65535][draw(5)]; sound, repaired and failed, each: if draw(2) is 0 then [0, 1, 4294967293, 4294967294,
+//! 4294967295][draw(5)], or else two draws of 16 bits, the first highest. With nothing waiting, draw(15): 0 keeps all, 1 only
+//! the history, 2 the command, 3 trusted, 4 the octets, 5 invalid, 6 own, 7 sound, 8 repaired, 9 failed, others none; what
+//! isn't kept becomes 0. A count of multiblocks; 264 lane octets for each, rarely 1 + draw(263) more, or 320 and 1 + draw(319).
+//! Lent: 256 octets for each and draw(16), and five lists, one for each and draw(3); if draw(8) is 0, number draw(6) of these
+//! six is 1 less than for each.
 //!
 //! step: locked = [0, 1, 1, 1, 1, 1, 1, 1][draw(8)], rarely 2; offset = draw(66), rarely 66 more, or draw(80) and 80 more in
 //! modes 2 and 3; run = draw(64), rarely 64 more; bad = draw(16) if locked is 1, rarely 16 more; phase = draw(3), rarely 3; seen = [0, 5, 31, 32, 32, 32, 32,
@@ -37,9 +39,9 @@
 //! more, rarely 256 more. The octets are 0.
 //!
 //! Every number lent to be written is 165 before. Lines: `SEED send REFUSAL COUNT HISTORY PARITY NUMBER FILL DIGEST`, the
-//! digest of the lane; `SEED receive REFUSAL COUNT WAITING HISTORY TRUSTED COMMAND INVALID OWN DIGEST DIGEST`, those of the
-//! state's octets and of all that was lent, commands, places and patterns as 8 octets each; `SEED step REFUSAL` and the
-//! fields of the state (locks.rs); `SEED longest REFUSAL START COUNT`.
+//! digest of the lane; `SEED receive REFUSAL COUNT WAITING HISTORY TRUSTED COMMAND INVALID OWN SOUND REPAIRED FAILED DIGEST
+//! DIGEST`, the digests of the state's octets and of all that was lent, commands, places and patterns as 8 octets each; `SEED
+//! step REFUSAL` and the fields of the state (locks.rs); `SEED longest REFUSAL START COUNT`.
 
 use crate::bits;
 use crate::digest::Digest;
@@ -47,13 +49,14 @@ use crate::generator::Generator;
 use crate::lock::{self, ExtendedLock, HeaderLock, Lock, Phase};
 use crate::longest;
 use crate::mode::{is_extent, mode, row, Mode, BLOCKS, USER_OCTETS};
-use crate::receiver::{self, Lent, Receiver};
+use crate::receiver::{self, Counts, Lent, Receiver};
 use crate::sender::{self, Sender};
 
 const MODES: [u8; 24] = [0, 0, 0, 0, 1, 1, 1, 2, 2, 2, 2, 3, 3, 3, 4, 4, 4, 4, 4, 5, 5, 5, 6, 255];
 const EXTENTS: [u32; 8] = [1, 2, 3, 4, 256, 255, 257, 0];
 const FILLS: [u32; 6] = [0, 1, 131_070, 131_071, 131_072, u32::MAX];
 const OWNS: [u16; 5] = [0, 1, 511, 512, u16::MAX];
+const COUNTS: [u32; 5] = [0, 1, u32::MAX - 2, u32::MAX - 1, u32::MAX];
 const BEFORE: u8 = 165;
 
 /// The row that is drawn by.
@@ -164,6 +167,7 @@ fn send(generator: &mut Generator) -> String {
 }
 
 /// A receiver's state as numbers.
+#[derive(Clone)]
 struct Given {
     waiting: u32,
     trusted: u32,
@@ -172,6 +176,7 @@ struct Given {
     octets: Vec<u8>,
     invalid: u8,
     own: u16,
+    counts: Counts,
 }
 
 /// In range, but often at the edge of it or past that.
@@ -195,6 +200,20 @@ fn draw_own(generator: &mut Generator, mode: &Mode) -> u16 {
     }
 }
 
+/// The least, the greatest and those near it, or any of 32 bits.
+fn draw_releases(generator: &mut Generator) -> u32 {
+    if generator.draw(2) == 0 {
+        generator.one_of(&COUNTS)
+    } else {
+        draw_number(generator, 1 << 16) << 16 | draw_number(generator, 1 << 16)
+    }
+}
+
+fn draw_counts(generator: &mut Generator) -> Counts {
+    let [sound, repaired, failed] = [(); 3].map(|()| draw_releases(generator));
+    Counts { sound, repaired, failed }
+}
+
 impl Given {
     fn draw_any(generator: &mut Generator, mode: &Mode) -> Given {
         let waiting = or_rather(generator, &[0, 0, 0, 1, 1, 1, 1, 1], 2);
@@ -205,7 +224,8 @@ impl Given {
         let command = or_more(generator, command, past);
         let octets = generator.draw_octets(USER_OCTETS);
         let invalid = draw_invalid(generator);
-        Given { waiting, trusted, history, command, octets, invalid, own: draw_own(generator, mode) }
+        let own = draw_own(generator, mode);
+        Given { waiting, trusted, history, command, octets, invalid, own, counts: draw_counts(generator) }
     }
 
     fn draw(generator: &mut Generator, mode: &Mode) -> Given {
@@ -214,7 +234,8 @@ impl Given {
         if any.waiting != 0 {
             return any;
         }
-        match generator.draw(12) {
+        let counts = Counts::default();
+        match generator.draw(15) {
             0 => any,
             1 => Given { history: any.history, ..none },
             2 => Given { command: any.command, ..none },
@@ -222,6 +243,9 @@ impl Given {
             4 => Given { octets: any.octets, ..none },
             5 => Given { invalid: any.invalid, ..none },
             6 => Given { own: any.own, ..none },
+            7 => Given { counts: Counts { sound: any.counts.sound, ..counts }, ..none },
+            8 => Given { counts: Counts { repaired: any.counts.repaired, ..counts }, ..none },
+            9 => Given { counts: Counts { failed: any.counts.failed, ..counts }, ..none },
             _ => none,
         }
     }
@@ -237,6 +261,7 @@ impl Given {
             command: self.command,
             invalid: self.invalid,
             own: self.own,
+            counts: self.counts,
         };
         Some(state).filter(|_| self.waiting < 2 && self.trusted < 2)
     }
@@ -250,6 +275,7 @@ impl Given {
             octets: state.octets.to_vec(),
             invalid: state.invalid,
             own: state.own,
+            counts: state.counts,
         }
     }
 }
@@ -280,10 +306,22 @@ fn digest_of(lent: &Lent) -> Digest {
     commands.chain(bursts).fold(octets, Digest::with_number).with(&lent.invalid)
 }
 
-fn receive(generator: &mut Generator) -> String {
+/// What came of a call of the receiver.
+struct Outcome {
+    refusal: u8,
+    count: usize,
+    after: Given,
+    lent: Lent,
+}
+
+/// The mode and the state of a call.
+fn draw_given(generator: &mut Generator) -> (u8, Given) {
     let number = generator.one_of(&MODES);
+    (number, Given::draw(generator, drawn_as(number)))
+}
+
+fn received(generator: &mut Generator, number: u8, given: &Given) -> Outcome {
     let drawn_as = drawn_as(number);
-    let given = Given::draw(generator, drawn_as);
     let count = draw_count(generator, drawn_as);
     let lane = draw_parts(generator, drawn_as.lane_octets(), count);
     let mut lent = draw_lent(generator, count);
@@ -292,11 +330,19 @@ fn receive(generator: &mut Generator) -> String {
             let received = receiver::receive(number, state, &lane, &mut lent);
             (received.refusal, received.count, Given::of(&received.state))
         }
-        None => (if mode(number).is_some() { 3 } else { 1 }, 0, given),
+        None => (if mode(number).is_some() { 3 } else { 1 }, 0, given.clone()),
     };
-    let Given { waiting, trusted, history, command, octets, invalid, own } = after;
+    Outcome { refusal, count, after, lent }
+}
+
+fn receive(generator: &mut Generator) -> String {
+    let (number, given) = draw_given(generator);
+    let Outcome { refusal, count, after, lent } = received(generator, number, &given);
+    let Given { waiting, trusted, history, command, octets, invalid, own, counts } = after;
+    let Counts { sound, repaired, failed } = counts;
     let digests = [Digest::of(&octets), digest_of(&lent)].map(Digest::hexadecimal).join(" ");
-    format!("receive {refusal} {count} {waiting} {history} {trusted} {command} {invalid} {own} {digests}")
+    let waits = format!("{waiting} {history} {trusted} {command} {invalid} {own}");
+    format!("receive {refusal} {count} {waits} {sound} {repaired} {failed} {digests}")
 }
 
 /// The fields of both locks, in the order of `Lock::numbers`.
@@ -415,7 +461,9 @@ pub fn line(seed: u64) -> String {
 
 #[cfg(test)]
 mod tests {
-    use super::call;
+    use super::{call, draw_given, received, Given, Outcome};
+    use crate::generator::Generator;
+    use crate::receiver::Receiver;
     use std::collections::HashMap;
     use std::sync::LazyLock;
 
@@ -474,6 +522,73 @@ mod tests {
         assert!(["1", "511", "512", "65535"].iter().all(|own| count("receive 3 0 ", own) > 2));
         assert!(["1", "511"].iter().all(|own| count("receive 0 0 ", own) > 0));
         assert!(["512", "65535"].iter().all(|own| count("receive 0 ", own) == 0));
+    }
+
+    /// The receiver's calls of these seeds: the state given, and what came of it.
+    static RECEIVED: LazyLock<Vec<(Given, Outcome)>> = LazyLock::new(|| {
+        let of_receiver = (1..=12_000).map(Generator::seeded).filter_map(|mut generator| {
+            (generator.draw(4) == 1).then(|| {
+                let (number, given) = draw_given(&mut generator);
+                let outcome = received(&mut generator, number, &given);
+                (given, outcome)
+            })
+        });
+        of_receiver.collect()
+    });
+
+    fn numbers(state: &Given) -> [u32; 3] {
+        [state.counts.sound, state.counts.repaired, state.counts.failed]
+    }
+
+    /// Releases with status 0 or 4, 1 or 5, 2 or 6.
+    fn kinds(outcome: &Outcome) -> [u32; 3] {
+        let statuses = &outcome.lent.statuses[..outcome.count];
+        [0, 1, 2].map(|kind| statuses.iter().filter(|status| [kind, kind + 4].contains(status)).count() as u32)
+    }
+
+    /// A count stops on its way: below 4,294,967,295 before the call, and there with more released than that takes. Each count
+    /// stays there, and each goes on where there is room. Drawn octets are seldom mended, so that of `repaired` no case of
+    /// these seeds stops on its way: the tests of receiver.rs and runs/receiver.txt have that.
+    #[test]
+    fn counts_reach_the_greatest_number() {
+        let (mut stop, mut stay, mut go_on) = ([0; 3], [0; 3], [0; 3]);
+        for (given, outcome) in RECEIVED.iter() {
+            let (before, after) = (numbers(given), numbers(&outcome.after));
+            for (kind, more) in kinds(outcome).into_iter().enumerate() {
+                let exact = u64::from(before[kind]) + u64::from(more);
+                assert_eq!(u64::from(after[kind]), exact.min(4_294_967_295));
+                stay[kind] += usize::from(more > 0 && before[kind] == u32::MAX);
+                stop[kind] += usize::from(before[kind] < u32::MAX && exact > 4_294_967_295);
+                go_on[kind] += usize::from(more > 0 && exact < 4_294_967_295);
+            }
+        }
+        assert!(stay.iter().chain(&go_on).all(|cases| *cases > 0), "{stay:?} {go_on:?}");
+        assert!(stop[0] > 2 && stop[2] > 2, "{stop:?}");
+    }
+
+    /// Nothing waits, and of all numbers but this count each is 0.
+    fn is_alone(kind: usize, given: &Given) -> bool {
+        let none = Given::of(&Receiver::fresh());
+        let others = [given.waiting, given.trusted, given.command, given.invalid.into(), given.own.into()];
+        let counts = numbers(given).into_iter().enumerate();
+        let zero = others == [0; 5] && given.history == 0 && given.octets == none.octets;
+        zero && counts.filter(|(_, count)| *count > 0).map(|(k, _)| k).eq([kind])
+    }
+
+    /// With nothing waiting each count alone is refused by 3, at 1, at the greatest number and between; with one waiting the
+    /// greatest is accepted of each.
+    #[test]
+    fn counts_are_refused_with_nothing_waiting() {
+        for kind in 0..3 {
+            let alone: Vec<_> = RECEIVED.iter().filter(|(given, _)| is_alone(kind, given)).collect();
+            assert!(alone.iter().all(|(_, outcome)| [1, 3].contains(&outcome.refusal)));
+            let refused = alone.iter().filter(|(_, outcome)| outcome.refusal == 3);
+            let counts: Vec<u32> = refused.map(|(given, _)| numbers(given)[kind]).collect();
+            assert!([1, u32::MAX].iter().all(|edge| counts.contains(edge)));
+            assert!(counts.iter().any(|count| (2..u32::MAX - 2).contains(count)));
+            let accepted = RECEIVED.iter().filter(|(_, outcome)| outcome.refusal == 0);
+            assert!(accepted.filter(|(given, _)| numbers(given)[kind] == u32::MAX).count() > 9);
+        }
     }
 
     /// A refused state comes back as it was given: PARITY is word 4 of the line of a sender, COMMAND word 6 of a receiver's.

@@ -25,8 +25,8 @@
 //! Then the calls are drawn in which the lane is received, the first from a fresh state.
 //! A line: `SEED damaged MODE N KIND COUNT`, COUNT multiblocks released in all; for each
 //! ` STATUS/PLACE/PATTERN/COMMAND/INVALID`; ` DIGEST` of all released octets; the end state as
-//! ` WAITING HISTORY TRUSTED COMMAND INVALID OWN DIGEST`, the digest of its 256 octets; and the longest run of statuses 0 and
-//! 1 over all releases as ` START LENGTH` in multiblocks, 0 0 if none.
+//! ` WAITING HISTORY TRUSTED COMMAND INVALID OWN SOUND REPAIRED FAILED DIGEST`, the digest of its 256 octets; and the longest
+//! run of statuses 0 and 1 over all releases as ` START LENGTH` in multiblocks, 0 0 if none.
 
 use crate::bits;
 use crate::cases::{draw_calls, draw_extent, draw_mode, Input};
@@ -35,7 +35,7 @@ use crate::frame::{self, NewHeader};
 use crate::generator::Generator;
 use crate::longest;
 use crate::mode::{row, Mode, BLOCKS, USER_OCTETS};
-use crate::receiver::{self, Lent, Receiver};
+use crate::receiver::{self, Counts, Lent, Receiver};
 
 const LONG_BURST: usize = 14;
 
@@ -215,7 +215,9 @@ pub fn line(seed: u64) -> String {
     };
     let releases: String = (0..count).map(release).collect();
     let [waiting, trusted] = [state.waiting, state.trusted].map(u8::from);
-    let end = format!("{waiting} {} {trusted} {} {} {}", state.history, state.command, state.invalid, state.own);
+    let Counts { sound, repaired, failed } = state.counts;
+    let waits = format!("{waiting} {} {trusted} {} {} {}", state.history, state.command, state.invalid, state.own);
+    let end = format!("{waits} {sound} {repaired} {failed}");
     let (start, length) = longest::span(&released.statuses);
     assert_eq!(longest::longest_run(&released.octets, &released.statuses).part.len(), USER_OCTETS * length);
     format!(
@@ -315,6 +317,22 @@ mod tests {
             let whole = receiver::receive(case.input.mode, Receiver::fresh(), &case.lane, &mut lent);
             assert_eq!((&lent, &whole.state), (released, state));
         }
+    }
+
+    /// The end state counts what all calls released, and not the multiblock that waits; each kind is counted more than once.
+    #[test]
+    fn counts_are_those_of_the_statuses() {
+        let mut most = [0; 3];
+        for (case, Outcome { released, state }) in ALL.iter() {
+            let of = |kinds: [u8; 2]| released.statuses.iter().filter(|status| kinds.contains(status)).count() as u32;
+            let counted = [of([0, 4]), of([1, 5]), of([2, 6])];
+            assert_eq!([state.counts.sound, state.counts.repaired, state.counts.failed], counted);
+            assert_eq!(counted.iter().sum::<u32>() as usize, case.input.multiblocks() - 1);
+            for (most, count) in most.iter_mut().zip(counted) {
+                *most = count.max(*most);
+            }
+        }
+        assert!(most.iter().all(|count| *count > 1));
     }
 
     /// Each status occurs in each mode that has it, bursts in the data and in the parity, marked commands, and numbers of

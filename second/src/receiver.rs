@@ -2,7 +2,8 @@
 //! until the next has come with its parity, or with what is missing of it: with CRC-3 three groups' came with the multiblock
 //! itself, and are kept in `own` (document 02, request 5). A group and its parity are a codeword. The parity agrees where
 //! long division leaves nothing of any; else, in FEC mode, the burst that leaves the same is flipped. Without groups nothing
-//! can disagree. With each goes how many of its own headers were invalid (request 1).
+//! can disagree. With each goes how many of its own headers were invalid (request 1). The state counts what was released so far,
+//! by what the statuses say (request 7).
 
 use std::collections::HashMap;
 use std::sync::LazyLock;
@@ -15,6 +16,32 @@ use crate::scrambler::{descramble, HISTORY_BITS};
 
 const UNTRUSTED: u8 = 4;
 
+/// Multiblocks released from a fresh state on, by what their statuses say. None goes above `u32::MAX`.
+#[derive(Clone, Copy, Debug, Default, PartialEq)]
+pub struct Counts {
+    /// Of statuses 0 and 4, also in mode 5, where nothing was checked.
+    pub sound: u32,
+    /// Of statuses 1 and 5.
+    pub repaired: u32,
+    /// Of statuses 2 and 6.
+    pub failed: u32,
+}
+
+impl Counts {
+    /// With one more release of that status: 4, 5 and 6 are counted as 0, 1 and 2. A count that has come to the greatest number
+    /// stays there.
+    fn with(self, status: u8) -> Counts {
+        let mut counts = self;
+        let count = match status % UNTRUSTED {
+            0 => &mut counts.sound,
+            1 => &mut counts.repaired,
+            _ => &mut counts.failed,
+        };
+        *count = count.saturating_add(1);
+        counts
+    }
+}
+
 #[derive(Clone, Debug, PartialEq)]
 pub struct Receiver {
     pub waiting: bool,
@@ -26,6 +53,7 @@ pub struct Receiver {
     pub invalid: u8,
     /// Its parity as far as it came with its own sync word.
     pub own: u16,
+    pub counts: Counts,
 }
 
 #[derive(Debug, PartialEq)]
@@ -146,13 +174,15 @@ impl Receiver {
             command: 0,
             invalid: 0,
             own: 0,
+            counts: Counts::default(),
         }
     }
 
+    /// With nothing waiting all is 0, the counts too; with one waiting they may be any.
     fn is_in_range(&self, mode: &Mode) -> bool {
         let fits = self.history >> HISTORY_BITS == 0 && self.command <= mode.word.highest_received();
-        let counts = usize::from(self.invalid) <= BLOCKS && self.own >> mode.word.code.own_width() == 0;
-        fits && counts && (self.waiting || *self == Receiver::fresh())
+        let numbers = usize::from(self.invalid) <= BLOCKS && self.own >> mode.word.code.own_width() == 0;
+        fits && numbers && (self.waiting || *self == Receiver::fresh())
     }
 
     /// How many are released when so many are received.
@@ -165,11 +195,11 @@ impl Receiver {
     }
 
     /// The multiblock that has come waits from now on.
-    fn waiting_with(mode: &Mode, come: &Multiblock, history: u64, trusted: bool) -> Receiver {
+    fn waiting_with(mode: &Mode, come: &Multiblock, history: u64, trusted: bool, counts: Counts) -> Receiver {
         let octets = bits::octets(&come.data).try_into().expect("a multiblock has 256 octets of data");
         let command = mode.word.layout.command(&come.headers);
         let own = mode.word.layout.own(&come.headers) as u16;
-        Receiver { waiting: true, octets, history, trusted, command, invalid: come.headers.invalid(), own }
+        Receiver { waiting: true, octets, history, trusted, command, invalid: come.headers.invalid(), own, counts }
     }
 
     /// The multiblock that waits is released, now that the next one has come.
@@ -191,7 +221,8 @@ impl Receiver {
             invalid: self.invalid,
         };
         let history = bits::number(&data[DATA_BITS - HISTORY_BITS..]);
-        (Receiver::waiting_with(mode, come, history, status != 2), release)
+        let counts = self.counts.with(release.status);
+        (Receiver::waiting_with(mode, come, history, status != 2, counts), release)
     }
 
     /// The state after a multiblock has come, and what was released.
@@ -201,7 +232,7 @@ impl Receiver {
             let (after, release) = self.release(mode, &come);
             (after, Some(release))
         } else {
-            (Receiver::waiting_with(mode, &come, 0, false), None)
+            (Receiver::waiting_with(mode, &come, 0, false, self.counts), None)
         }
     }
 }
@@ -238,7 +269,7 @@ pub fn receive(number: u8, state: Receiver, lane: &[u8], lent: &mut Lent) -> Rec
 
 #[cfg(test)]
 mod tests {
-    use super::{receive, Lent, Received, Receiver};
+    use super::{receive, Counts, Lent, Received, Receiver};
     use crate::bits;
     use crate::frame::{fill_places, with_headers};
     use crate::mode::row;
@@ -513,6 +544,116 @@ mod tests {
         }
     }
 
+    fn counts(sound: u32, repaired: u32, failed: u32) -> Counts {
+        Counts { sound, repaired, failed }
+    }
+
+    #[test]
+    fn each_status_has_its_count() {
+        let after = |status| counts(10, 20, 30).with(status);
+        assert_eq!([0, 4].map(after), [counts(11, 20, 30); 2]);
+        assert_eq!([1, 5].map(after), [counts(10, 21, 30); 2]);
+        assert_eq!([2, 6].map(after), [counts(10, 20, 31); 2]);
+    }
+
+    /// The status of a multiblock of FEC that waited with these counts, and the counts after it. Of the two that had come
+    /// before its release it is the last, or the first, which has nothing before it; its flips are at these positions.
+    fn released_from(given: Counts, trusted: bool, positions: &[usize]) -> (u8, Counts) {
+        let mut lane = lane(1, 4, 0);
+        flip(1, &mut lane, positions);
+        let from = if trusted { 0 } else { 264 };
+        let mut lent = Lent::room_for(1);
+        let before = receive(1, Receiver::fresh(), &lane[from..528], &mut lent).state;
+        let after = receive(1, Receiver { counts: given, ..before }, &lane[528..792], &mut lent);
+        assert_eq!((after.refusal, after.count), (0, 1));
+        (lent.statuses[0], after.state.counts)
+    }
+
+    /// From 4,294,967,294 a count goes to 4,294,967,295, and no further; the other two stay what they are.
+    #[test]
+    fn a_count_stops_at_the_greatest_number() {
+        const MOST: u32 = 4_294_967_295;
+        for (kind, positions) in [&[][..], &[7], &[0, 9]].into_iter().enumerate() {
+            for trusted in [true, false] {
+                let status = kind as u8 + if trusted { 0 } else { 4 };
+                let near = counts(MOST - 1, MOST - 1, MOST - 1);
+                let at = [
+                    counts(MOST, MOST - 1, MOST - 1),
+                    counts(MOST - 1, MOST, MOST - 1),
+                    counts(MOST - 1, MOST - 1, MOST),
+                ];
+                assert_eq!(released_from(near, trusted, positions), (status, at[kind]));
+                assert_eq!(released_from(at[kind], trusted, positions), (status, at[kind]));
+                let past = [counts(1, MOST, MOST), counts(MOST, 1, MOST), counts(MOST, MOST, 1)];
+                let given = [counts(0, MOST, MOST), counts(MOST, 0, MOST), counts(MOST, MOST, 0)];
+                assert_eq!(released_from(given[kind], trusted, positions), (status, past[kind]));
+            }
+        }
+    }
+
+    /// What is counted is what was released: the multiblock that waits isn't among them.
+    #[test]
+    fn counts_go_on_from_call_to_call() {
+        for (mode, statuses, end) in [
+            (0, [4, 2, 4, 0], counts(3, 0, 1)),
+            (1, [4, 1, 0, 0], counts(3, 1, 0)),
+            (2, [4, 2, 4, 0], counts(3, 0, 1)),
+            (3, [4, 1, 0, 0], counts(3, 1, 0)),
+            (4, [4, 2, 4, 0], counts(3, 0, 1)),
+            (5, [4, 0, 0, 0], counts(4, 0, 0)),
+        ] {
+            let mut lane = lane(mode, 5, 0);
+            flip(mode, &mut lane, &[700]);
+            let (whole, lent) = received(mode, &lane);
+            assert_eq!((&lent.statuses[..4], whole.state.counts), (&statuses[..], end));
+            let mut state = Receiver::fresh();
+            for (k, octets) in lane.chunks(row(mode).lane_octets()).enumerate() {
+                state = receive(mode, state, octets, &mut Lent::room_for(1)).state;
+                let so_far = statuses[..k].iter().fold(Counts::default(), |counts, status| counts.with(*status));
+                assert_eq!(state.counts, so_far);
+            }
+            assert_eq!(state, whole.state);
+        }
+    }
+
+    /// Two states that differ only in counts release the same, and the states after it differ only in counts.
+    #[test]
+    fn counts_change_nothing_else() {
+        for mode in 0..6 {
+            let mut lane = lane(mode, 4, 0);
+            flip(mode, &mut lane, &[5, 9, 13]);
+            let (head, tail) = lane.split_at(row(mode).lane_octets());
+            let before = receive(mode, Receiver::fresh(), head, &mut Lent::room_for(0)).state;
+            let after = |given| {
+                let mut lent = Lent::room_for(3);
+                let received = receive(mode, Receiver { counts: given, ..before.clone() }, tail, &mut lent);
+                (received.count, lent, received.state)
+            };
+            let (count, released, state) = after(Counts::default());
+            let (count_again, released_again, other) = after(counts(1000, 2000, u32::MAX));
+            assert_eq!((count_again, released_again), (count, released));
+            let Counts { sound, repaired, .. } = state.counts;
+            assert_eq!(other.counts, counts(1000 + sound, 2000 + repaired, u32::MAX));
+            assert_eq!(Receiver { counts: state.counts, ..other }, state);
+        }
+    }
+
+    /// A call without multiblocks and a refused one hand back what was given.
+    #[test]
+    fn counts_come_back_as_given() {
+        let most = counts(u32::MAX, u32::MAX, u32::MAX);
+        let waiting = |counts| Receiver { waiting: true, counts, ..Receiver::fresh() };
+        for given in [counts(1, 2, 3), most].map(waiting) {
+            let empty = receive(5, given.clone(), &[], &mut Lent::room_for(0));
+            assert_eq!(empty, Received { refusal: 0, count: 0, state: given.clone() });
+            assert_eq!(refusal_of(6, given.clone(), 264, Lent::room_for(1)), 1);
+            assert_eq!(refusal_of(1, Receiver { command: 1, ..given.clone() }, 264, Lent::room_for(1)), 3);
+            assert_eq!(refusal_of(1, given.clone(), 265, Lent::room_for(1)), 4);
+            assert_eq!(refusal_of(1, given.clone(), 264 * 241, Lent::room_for(241)), 5);
+            assert_eq!(refusal_of(1, given, 264, Lent::room_for(0)), 7);
+        }
+    }
+
     fn refusal_of(mode: u8, state: Receiver, lane: usize, lent: Lent) -> u8 {
         let mut exit = lent.clone();
         let received = receive(mode, state.clone(), &vec![0; lane], &mut exit);
@@ -556,6 +697,22 @@ mod tests {
         let mut octets = [0; 256];
         octets[255] = 1;
         check(1, Receiver { octets, ..Receiver::fresh() }, 3);
+    }
+
+    /// Any count is accepted with one waiting, and none but 0 with nothing waiting.
+    #[test]
+    fn refusals_of_counts() {
+        let check = |mode, state, refusal| assert_eq!(refusal_of(mode, state, 0, Lent::room_for(0)), refusal);
+        for mode in 0..6 {
+            for count in [1, u32::MAX - 1, u32::MAX] {
+                for counts in
+                    [counts(count, 0, 0), counts(0, count, 0), counts(0, 0, count), counts(count, count, count)]
+                {
+                    check(mode, Receiver { counts, ..Receiver::fresh() }, 3);
+                    check(mode, Receiver { counts, waiting: true, ..Receiver::fresh() }, 0);
+                }
+            }
+        }
     }
 
     #[test]

@@ -17,6 +17,7 @@ use Rattle.frame.proofs.Rows.{few}
 use Rattle.receiver.specs.declared.Receiver.{Receiver}
 use Rattle.receiver.specs.declared.Received.{Received}
 use Rattle.receiver.specs.Release.{Release, fresh, run}
+use Rattle.receiver.specs.Totals.{totalled}
 use Rattle.receiver.specs.Entry.{column, laidOut, entry}
 use Rattle.receiver.specs.Entry.{Done as Kept}
 use Rattle.receiver.specs.Entry.{done as kept}
@@ -45,7 +46,7 @@ module _ (mode : ℕ) (lane : List ℕ) (is-known : known mode ≡ true) (whole 
   within : receivedIn (row mode) lane ≤ mostOfAll
   within = omega (arith, received-few mode lane short, few mode)
 
-  is-run : kept r o′ s′ c′ p′ q′ i′ ≡ laidOut (run (row mode) (bitAt lane) fresh (receivedIn (row mode) lane)) o s c p q i
+  is-run : kept r o′ s′ c′ p′ q′ i′ ≡ laidOut (totalled (run (row mode) (bitAt lane) fresh (receivedIn (row mode) lane))) o s c p q i
   is-run =
       e
       ∙ ap (λ (x : Receiver). entry mode x lane o s c p q i) es

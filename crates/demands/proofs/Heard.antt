@@ -20,12 +20,14 @@ use Rattle.frame.proofs.Places.{data-is, header-same}
 use Rattle.frame.proofs.Sizes.{octets-some}
 use Rattle.receiver.specs.declared.Receiver.{Receiver}
 use Rattle.receiver.specs.Release.{Release, Step, run}
+use Rattle.receiver.specs.Totals.{totalled}
 use Rattle.receiver.specs.Entry.{Done, octetsOut, column, laidOut}
 use Rattle.receiver.proofs.Cut.{then, same-reading, run-cut}
+use Rattle.receiver.proofs.Carried.{run-carries, none-counted, counted-on, same-out}
 use Rattle.receiver.proofs.Answers.{all-run, all-whole}
 use Rattle.receiver.proofs.Buffers.{column-length}
-use Rattle.receiver.proofs.Numbered.{octets-append, column-append, none-out, none-column, all-full}
-use Rattle.demands.specs.Calls.{Receiving, receiving, laneHeard, AllHeard, octetsReleased, listReleased}
+use Rattle.receiver.proofs.Numbered.{octets-append, column-append, none-many, none-out, none-column, all-full}
+use Rattle.demands.specs.Calls.{Receiving, receiving, laneHeard, AllHeard, stateLeft, countReleased, octetsReleased, listReleased}
 use Rattle.demands.proofs.Places.{data-inside, header-inside}
 
 -- a list of the answer that begins with a number of each release
@@ -94,6 +96,8 @@ module _ (mode : ℕ) where
 
   pub record AllRun (s : Receiver) (calls : List Receiving) : Type 0 where
     pub whole : length (laneHeard calls) ≡ L * (length (laneHeard calls) / L)
+    pub state : stateLeft mode s calls ≡ totalled (run R (bitAt (laneHeard calls)) s (length (laneHeard calls) / L)) .state
+    pub count : countReleased mode s calls ≡ length (run R (bitAt (laneHeard calls)) s (length (laneHeard calls) / L) .out)
     pub octets : octetsReleased mode s calls ≡ octetsOut (run R (bitAt (laneHeard calls)) s (length (laneHeard calls) / L) .out)
     pub lists : (list : Done → List ℕ) (f : Release → ℕ) → Lays list f
         → listReleased mode list s calls ≡ column f (run R (bitAt (laneHeard calls)) s (length (laneHeard calls) / L) .out)
@@ -105,7 +109,7 @@ module _ (mode : ℕ) where
     abbrev ran : Step
     ran = run R (bitAt (c .lane)) s k
 
-    is : receiving mode s c ≡ laidOut ran (c .octets) (c .statuses) (c .commands) (c .places) (c .patterns) (c .invalid)
+    is : receiving mode s c ≡ laidOut (totalled ran) (c .octets) (c .statuses) (c .commands) (c .places) (c .patterns) (c .invalid)
     unfolding k
     is = all-run mode s (c .lane) (c .octets) (c .statuses) (c .commands) (c .places) (c .patterns) (c .invalid) z
 
@@ -121,7 +125,7 @@ module _ (mode : ℕ) where
 
     list-taken : (list : Done → List ℕ) (f : Release → ℕ) → Lays list f → take (receiving mode s c .answer .count) (list (receiving mode s c)) ≡ column f (ran .out)
     list-taken list f lays =
-        let l = lays ran (c .octets) (c .statuses) (c .commands) (c .places) (c .patterns) (c .invalid) in
+        let l = lays (totalled ran) (c .octets) (c .statuses) (c .commands) (c .places) (c .patterns) (c .invalid) in
         ap (λ (d : Done). take (d .answer .count) (list d)) is
         ∙ ap₂ take (sym (column-length f (ran .out))) (l .1)
         ∙ taken-back (column f (ran .out)) (l .0)
@@ -137,36 +141,53 @@ module _ (mode : ℕ) where
       unfolding n
       both-whole = length-append (c .lane) (laneHeard calls) ∙ ap₂ _+_ long (rest .whole) ∙ sym (mul-add L k n)
 
-      count : length (c .lane ++ laneHeard calls) / L ≡ k + n
-      count = ap (λ (x : ℕ). x / L) both-whole ∙ mul-div-cancel-left (k + n) (octets-some (R .gap))
+      so-many : length (c .lane ++ laneHeard calls) / L ≡ k + n
+      so-many = ap (λ (x : ℕ). x / L) both-whole ∙ mul-div-cancel-left (k + n) (octets-some (R .gap))
 
-      out-is : run R (bitAt (c .lane ++ laneHeard calls)) s (length (c .lane ++ laneHeard calls) / L) .out ≡ ran .out ++ more .out
+      all-is : run R (bitAt (c .lane ++ laneHeard calls)) s (length (c .lane ++ laneHeard calls) / L) ≡ then ran more
       unfolding more
-      out-is = ap (λ (x : ℕ). run R (bitAt (c .lane ++ laneHeard calls)) s x .out) count ∙ ap (λ (x : Step). x .out) (both (c .lane) (laneHeard calls) k long s n)
+      all-is = ap (run R (bitAt (c .lane ++ laneHeard calls)) s) so-many ∙ both (c .lane) (laneHeard calls) k long s n
 
-      state-is : run R (bitAt (laneHeard calls)) (receiving mode s c .answer .state) n ≡ more
+      out-is : run R (bitAt (laneHeard calls)) (receiving mode s c .answer .state) n .out ≡ more .out
       unfolding more
-      state-is = ap (λ (d : Done). run R (bitAt (laneHeard calls)) (d .answer .state) n) is
+      out-is = ap (λ (d : Done). run R (bitAt (laneHeard calls)) (d .answer .state) n .out) is ∙ same-out (λ x. run R (bitAt (laneHeard calls)) x n) (run-carries R (bitAt (laneHeard calls)) n) ran
+
+      state-is : totalled (run R (bitAt (laneHeard calls)) (receiving mode s c .answer .state) n) .state ≡ totalled (then ran more) .state
+      unfolding more
+      state-is =
+          ap (λ (d : Done). totalled (run R (bitAt (laneHeard calls)) (d .answer .state) n) .state) is
+          ∙ counted-on (λ x. run R (bitAt (laneHeard calls)) x n) (run-carries R (bitAt (laneHeard calls)) n) ran
 
       with-call : AllRun s (c ∷ calls)
       unfolding n
       with-call = record {
-        whole = both-whole ∙ ap (λ (x : ℕ). L * x) (sym count);
+        whole = both-whole ∙ ap (λ (x : ℕ). L * x) (sym so-many);
+        state = rest .state ∙ state-is ∙ ap (λ (x : Step). totalled x .state) (sym all-is);
+        count =
+            ap₂ _+_ (ap (λ (d : Done). d .answer .count) is) (rest .count ∙ ap length out-is)
+            ∙ sym (length-append (ran .out) (more .out))
+            ∙ ap (λ (x : Step). length (x .out)) (sym all-is);
         octets =
-            ap₂ _++_ octets-taken (rest .octets ∙ ap (λ (x : Step). octetsOut (x .out)) state-is)
+            ap₂ _++_ octets-taken (rest .octets ∙ ap octetsOut out-is)
             ∙ sym (octets-append (ran .out) (more .out))
-            ∙ ap octetsOut (sym out-is);
+            ∙ ap (λ (x : Step). octetsOut (x .out)) (sym all-is);
         lists = λ list f lays.
-            ap₂ _++_ (list-taken list f lays) (rest .lists list f lays ∙ ap (λ (x : Step). column f (x .out)) state-is)
+            ap₂ _++_ (list-taken list f lays) (rest .lists list f lays ∙ ap (column f) out-is)
             ∙ sym (column-append f (ran .out) (more .out))
-            ∙ ap (column f) (sym out-is);
+            ∙ ap (λ (x : Step). column f (x .out)) (sym all-is);
       }
 
   pub all-calls : (s : Receiver) (calls : List Receiving) → AllHeard mode s calls → AllRun s calls
-  all-calls s [] h = record { whole = sym (ap (λ (x : ℕ). L * x) none ∙ mul-zero L); octets = octets; lists = λ list f lays. entries f }
+  all-calls s [] h = record { whole = sym (ap (λ (x : ℕ). L * x) none ∙ mul-zero L); state = state; count = count; octets = octets; lists = λ list f lays. entries f }
     where
       none : 0 / L ≡ 0
       none = zero-div L
+
+      state : s ≡ totalled (run R (bitAt []) s (0 / L)) .state
+      state = sym (ap (λ (n : ℕ). totalled (run R (bitAt []) s n) .state) none ∙ none-counted R (bitAt []) s)
+
+      count : 0 ≡ length (run R (bitAt []) s (0 / L) .out)
+      count = sym (ap (λ (n : ℕ). length (run R (bitAt []) s n .out)) none ∙ none-many R (bitAt []) s)
 
       octets : [] ≡ octetsOut (run R (bitAt []) s (0 / L) .out)
       octets = sym (ap (λ (n : ℕ). octetsOut (run R (bitAt []) s n .out)) none ∙ none-out R (bitAt []) s)

@@ -3,7 +3,7 @@ use mathlib.Core.Path.{_≡_, refl, sym, ap, _∙_, subst}
 use mathlib.Core.Logic.{_⊎_, ⊎-elim, inl, inr}
 use mathlib.Core.Bool.{Bool, true, false, true≢false}
 use mathlib.Core.List.{List, []}
-use Prim.Native.Nat.{ℕ, zero, suc, _+_, _*_, _<_, _≤_}
+use Prim.Native.Nat.{ℕ, zero, suc, _+_, _*_, _/_, _<_, _≤_}
 use native.Mathlib.Nat.{mul-le-mul-left, le-refl, le-of-mul-le-mul-left}
 use native.Mathlib.Omega.{arith}
 use borrow.Author.Tests.{ltb-true, ltb-false}
@@ -32,8 +32,13 @@ use Rattle.commands.proofs.Promised.{all-read-back}
 use Rattle.sender.proofs.Runs.{lane-length}
 use Rattle.sender.proofs.Entry.{answered, fits}
 use Rattle.sender.proofs.Multiblocks.{fill-sent}
-use Rattle.receiver.specs.Release.{fresh}
+use Rattle.receiver.specs.Release.{Step, fresh}
+use Rattle.receiver.specs.Totals.{mostCount, stopped, howMany}
+use Rattle.receiver.specs.Entry.{Done, laidOut}
 use Rattle.receiver.proofs.Ignored.{gaps-ignored}
+use Rattle.receiver.proofs.Carried.{same-but-counts}
+use Rattle.receiver.proofs.Totalled.{counted, told, count-by-kind, counts-add-up}
+use Rattle.receiver.proofs.Answers.{all-run}
 use Rattle.judge.specs.Sound.{sound, soundness}
 use Rattle.judge.proofs.Judging.{called-sound}
 use Rattle.lock.specs.declared.Lock.{Lock}
@@ -41,14 +46,15 @@ use Rattle.lock.specs.Stream.{Held}
 use Rattle.lock.proofs.Runs.{state-none}
 use Rattle.lock.proofs.Bound.{locked-in-time, nothing-kept}
 use Rattle.lock.proofs.Kept.{goes-on, stays-apart, kept-followed}
-use Rattle.demands.specs.Calls.{userOctets, commandsGiven, laneSent, laneHeard, commandsReleased}
+use Rattle.demands.specs.Calls.{userOctets, commandsGiven, laneSent, Receiving, laneHeard, AllHeard, stateLeft, countReleased, statusesReleased, commandsReleased}
 use Rattle.demands.specs.Transfer.{Transfer, flips, DamagedBy, Untouched, releases, released, status, given, headerFlips}
-use Rattle.demands.specs.Promises.{Limits, Kinds, FecDelivers, CrcTellsHits, CrcUntouchedSound, SoundTrue, FecSoundTrue, CrcSoundTrue, UncheckedNeverSound, UndamagedDelivers, UntouchedTells, MessagesCross, InvalidTold, InvalidByFlips, UntouchedValid, FillIgnored, FillByTable, NeverStill, BurstsByPairs, OneBurst, OneSet, LocksInTime, NothingKept, LocksGoOn, NeverMeet, KeptFollowed, headersFrom, DozenRight}
+use Rattle.demands.specs.Promises.{Limits, Kinds, FecDelivers, CrcTellsHits, CrcUntouchedSound, SoundTrue, FecSoundTrue, CrcSoundTrue, UncheckedNeverSound, UndamagedDelivers, UntouchedTells, MessagesCross, TotalsTold, TotalsAddUp, butCounts, CountsUnread, InvalidTold, InvalidByFlips, UntouchedValid, FillIgnored, FillByTable, NeverStill, BurstsByPairs, OneBurst, OneSet, LocksInTime, NothingKept, LocksGoOn, NeverMeet, KeptFollowed, headersFrom, DozenRight}
 use Rattle.demands.proofs.Places.{header-inside, header-from-start}
 use Rattle.demands.proofs.Sent.{one-lane}
 use Rattle.demands.proofs.Pairs.{pairs, in-bursts}
 use Rattle.demands.proofs.Locks.{along-lane}
 use Rattle.demands.proofs.Dozen.{all-right}
+use Rattle.demands.proofs.Heard.{AllRun, all-calls}
 use Rattle.demands.proofs.Delivered.{Lanes, Right, repairs-right, untouched-right, next-octet, hit-status, sound-octet, untouched-status, unchecked-status}
 use Rattle.demands.proofs.Released.{before, after, count, sends-them, sends-command, heard-up-to, lanes, all-released, commands-length, given-so-many, status-at, command-at, invalid-at, octet-released}
 
@@ -195,6 +201,48 @@ module _ {mode E : ℕ} (t : Transfer mode E) (clean : (x : ℕ) → x < 8 * len
 pub messages-cross : MessagesCross
 messages-cross mode E channel t clean messages ok e =
     subst (λ (l : List ℕ). reads mode l 0 (suc (length messages)) ≡ allRead mode 0 messages) (sym (commands-back t clean ∙ e)) (all-read-back mode messages channel ok)
+
+-- ---- running totals
+
+-- the counts that the calls leave are those of one run over all that was heard
+module _ (mode : ℕ) (calls : List Receiving) (h : AllHeard mode fresh calls) where
+  abbrev lane : ℕ → ℕ
+  lane = bitAt (laneHeard calls)
+
+  abbrev many : ℕ
+  many = length (laneHeard calls) / laneOctets (row mode .gap)
+
+  as-one : AllRun mode fresh calls
+  as-one = all-calls mode fresh calls h
+
+  left-is : stateLeft mode fresh calls ≡ counted (row mode) lane many
+  left-is = as-one .state
+
+  statuses-are : statusesReleased mode fresh calls ≡ told (row mode) lane many
+  statuses-are = as-one .lists (λ d. d .statuses) (λ r. r .status) (λ t o s c p q i. (s, refl))
+
+  totals-are : let left = stateLeft mode fresh calls in let statuses = statusesReleased mode fresh calls in
+      (left .sound ≡ stopped (howMany 0 statuses)) × (left .repaired ≡ stopped (howMany 1 statuses)) × (left .failed ≡ stopped (howMany 2 statuses))
+  totals-are = rw (left-is, statuses-are) (count-by-kind (row mode) lane many)
+
+  all-added : let left = stateLeft mode fresh calls in
+      left .sound < mostCount → left .repaired < mostCount → left .failed < mostCount → left .sound + left .repaired + left .failed ≡ countReleased mode fresh calls
+  all-added = rw (left-is, as-one .count) (counts-add-up (row mode) lane many)
+
+pub totals-told : TotalsTold
+totals-told = totals-are
+
+pub totals-add-up : TotalsAddUp
+totals-add-up mode calls h a b c = all-added mode calls h a b c
+
+pub counts-unread : CountsUnread
+counts-unread mode s t c e a b =
+    let lane = bitAt (c .lane) in
+    let n = length (c .lane) / laneOctets (row mode .gap) in
+    let laid : Step → Done = λ x. laidOut x (c .octets) (c .statuses) (c .commands) (c .places) (c .patterns) (c .invalid) in
+    ap butCounts (all-run mode s (c .lane) (c .octets) (c .statuses) (c .commands) (c .places) (c .patterns) (c .invalid) a)
+    ∙ ap laid (same-but-counts (row mode) lane s t n e)
+    ∙ sym (ap butCounts (all-run mode t (c .lane) (c .octets) (c .statuses) (c .commands) (c .places) (c .patterns) (c .invalid) b))
 
 -- ---- invalid headers
 

@@ -2,7 +2,7 @@
 -- "What the receiver releases". What was sent and released is read off the answers and the lent buffers. Assumes nothing.
 use mathlib.Core.Path.{_≡_}
 use mathlib.Core.List.{List, [], _∷_, _++_}
-use Prim.Native.Nat.{ℕ, _*_}
+use Prim.Native.Nat.{ℕ, _+_, _*_}
 use lib.ListN.{take}
 use Rattle.frame.specs.Modes.{row}
 use Rattle.frame.specs.Lane.{laneOctets}
@@ -64,6 +64,11 @@ module _ (mode : ℕ) where
   AllHeard s [] = Unit {0}
   AllHeard s (c ∷ calls) = (receiving s c .answer .refusal ≡ 0) × AllHeard (receiving s c .answer .state) calls
 
+  -- the state that all leave
+  abbrev pub stateLeft : Receiver → List Receiving → Receiver
+  stateLeft s [] = s
+  stateLeft s (c ∷ calls) = stateLeft (receiving s c .answer .state) calls
+
   -- all octets released: of each call as many as its count says
   abbrev pub octetsReleased : Receiver → List Receiving → List ℕ
   octetsReleased s [] = []
@@ -73,6 +78,11 @@ module _ (mode : ℕ) where
   abbrev pub listReleased : (receiver.Done → List ℕ) → Receiver → List Receiving → List ℕ
   listReleased list s [] = []
   listReleased list s (c ∷ calls) = take (receiving s c .answer .count) (list (receiving s c)) ++ listReleased list (receiving s c .answer .state) calls
+
+  -- how many were released: what the counts of the calls say together
+  abbrev pub countReleased : Receiver → List Receiving → ℕ
+  countReleased s [] = 0
+  countReleased s (c ∷ calls) = receiving s c .answer .count + countReleased (receiving s c .answer .state) calls
 
   abbrev pub statusesReleased : Receiver → List Receiving → List ℕ
   statusesReleased = listReleased (λ (d : receiver.Done). d .statuses)

@@ -20,6 +20,7 @@ use Rattle.sender.specs.declared.Sender.{Sender}
 use Rattle.judge.specs.Sound.{sound, soundness}
 use Rattle.receiver.specs.declared.Receiver.{Receiver}
 use Rattle.receiver.specs.Release.{fresh}
+use Rattle.receiver.specs.Totals.{mostCount, stopped, howMany, uncounted}
 use Rattle.receiver.specs.Entry as receiver
 use Rattle.lock.specs.declared.Phase.the-variants.{Following}
 use Rattle.lock.specs.declared.Lock.{Lock}
@@ -28,7 +29,7 @@ use Rattle.lock.specs.Refusals.{stepped}
 use Rattle.lock.specs.Run.{stateAfter}
 use Rattle.lock.specs.Stream.{Held}
 use Rattle.demands.specs.Damage.{InBursts, Pairwise}
-use Rattle.demands.specs.Calls.{Sending, sending, AllSent, laneSent, commandsGiven, Receiving, receiving, laneHeard, commandsReleased}
+use Rattle.demands.specs.Calls.{Sending, sending, AllSent, laneSent, commandsGiven, Receiving, receiving, laneHeard, AllHeard, stateLeft, countReleased, statusesReleased, commandsReleased}
 use Rattle.demands.specs.Transfer.{Transfer, flips, DamagedBy, Untouched, releases, released, status, commandTold, invalidTold, given, commandGiven, headerFlips}
 use Rattle.demands.specs.Dozen.{Case, Right, dozen}
 
@@ -124,6 +125,37 @@ MessagesCross =
     (mode E : ℕ) → 1 ≤ channelWords mode → (t : Transfer mode E) → ((x : ℕ) → x < 8 * length (laneHeard (t .receivings)) → flips t x ≡ 0)
     → (messages : List Given) → AllAccepted mode messages → take (releases t) (drop (t .from) (commandsGiven (t .sendings))) ≡ allEncoded mode messages
     → reads mode (commandsReleased mode fresh (t .receivings)) 0 (suc (length messages)) ≡ allRead mode 0 messages
+
+-- ---- running totals (request 7)
+
+-- each count of the state that calls from a fresh one leave is the number of releases of its kind, or the greatest number where that is more
+abbrev pub TotalsTold : Type 0
+TotalsTold =
+    (mode : ℕ) (calls : List Receiving) → AllHeard mode fresh calls
+    → let left = stateLeft mode fresh calls in let statuses = statusesReleased mode fresh calls in
+    (left .sound ≡ stopped (howMany 0 statuses)) × (left .repaired ≡ stopped (howMany 1 statuses)) × (left .failed ≡ stopped (howMany 2 statuses))
+
+-- below the greatest number, their sum is the number released
+abbrev pub TotalsAddUp : Type 0
+TotalsAddUp =
+    (mode : ℕ) (calls : List Receiving) → AllHeard mode fresh calls
+    → let left = stateLeft mode fresh calls in
+    left .sound < mostCount → left .repaired < mostCount → left .failed < mostCount
+    → left .sound + left .repaired + left .failed ≡ countReleased mode fresh calls
+
+-- an answer and the lent buffers, but for the counts of the state
+abbrev pub butCounts : receiver.Done → receiver.Done
+butCounts d =
+    let answer = d .answer in
+    receiver.done (record { refusal = answer .refusal; count = answer .count; state = uncounted (answer .state) })
+    (d .octets) (d .statuses) (d .commands) (d .places) (d .patterns) (d .invalid)
+
+-- two states that differ only in counts, neither refused, are answered alike but for these
+abbrev pub CountsUnread : Type 0
+CountsUnread =
+    (mode : ℕ) (s t : Receiver) (c : Receiving) → uncounted s ≡ uncounted t
+    → receiving mode s c .answer .refusal ≡ 0 → receiving mode t c .answer .refusal ≡ 0
+    → butCounts (receiving mode s c) ≡ butCounts (receiving mode t c)
 
 -- ---- invalid headers (request 1), with any bits flipped
 

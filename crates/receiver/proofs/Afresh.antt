@@ -11,6 +11,7 @@ use Rattle.frame.specs.declared.modes.Row.{Row}
 use Rattle.frame.specs.Modes.{known, row}
 use Rattle.frame.specs.Lane.{laneOctets}
 use Rattle.receiver.specs.Release.{fresh, run}
+use Rattle.receiver.specs.Totals.{totalled}
 use Rattle.receiver.specs.Refusal.{releases, roomFor, refusalOf}
 use Rattle.receiver.specs.Entry.{laidOut, entry}
 use Rattle.receiver.specs.inner.Turn.{Room}
@@ -40,7 +41,7 @@ module _ (mode : ℕ) (lane o st c p q i : List ℕ) where
         ∙ passed 3 _ _ (ap not (fresh-accepted (row mode .sync)))
         ∙ passed 1 _ _ (ap not is-known))
 
-    pub all-received : entry mode fresh lane o st c p q i ≡ laidOut (run (row mode) (bitAt lane) fresh (length lane / L)) o st c p q i
+    pub all-received : entry mode fresh lane o st c p q i ≡ laidOut (totalled (run (row mode) (bitAt lane) fresh (length lane / L))) o st c p q i
     unfolding entry
     all-received = rw (eq-eqb _ 0 not-refused)
 

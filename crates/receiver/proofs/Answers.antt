@@ -21,6 +21,7 @@ use Rattle.receiver.specs.declared.Receiver.{Receiver}
 use Rattle.receiver.specs.declared.Received.{Received}
 use Rattle.receiver.specs.declared.run.Begun.{Begun}
 use Rattle.receiver.specs.Release.{Step, waitingAt, run}
+use Rattle.receiver.specs.Totals.{totalled}
 use Rattle.receiver.specs.Refusal.{releases, refusalOf}
 use Rattle.receiver.specs.Entry.{done, laidOut, entry}
 use Rattle.receiver.specs.inner.Turn.{begunBy, Room}
@@ -40,13 +41,13 @@ module _ (R : Row) (s : Receiver) (lane : List ℕ) where
   n = length lane / L
 
   -- from a state with nothing waiting, the first multiblock releases nothing
-  begun : (k : ℕ) → s .waiting ≡ false → run R (bitAt lane) s (1 + k) ≡ run R (bitAt (drop (L * 1) lane)) (waitingAt R (bitAt lane) 0 0 false) k
+  begun : (k : ℕ) → s .waiting ≡ false → run R (bitAt lane) s (1 + k) ≡ run R (bitAt (drop (L * 1) lane)) (waitingAt R (bitAt lane) 0 s 0 false) k
   unfolding run
   begun k w =
-      let first : run R (bitAt lane) s 1 ≡ record { state = waitingAt R (bitAt lane) 0 0 false; out = [] } = step-first R (bitAt lane) 0 s w in
+      let first : run R (bitAt lane) s 1 ≡ record { state = waitingAt R (bitAt lane) 0 s 0 false; out = [] } = step-first R (bitAt lane) 0 s w in
       run-cut R (bitAt lane) s 1 k
       ∙ ap (λ (x : Step). then x (run R (laneFrom (R .gap) (bitAt lane) 1) (x .state) k)) first
-      ∙ ap (λ (f : ℕ → ℕ). run R f (waitingAt R (bitAt lane) 0 0 false) k) (sym (bits-from (R .gap) lane 1))
+      ∙ ap (λ (f : ℕ → ℕ). run R f (waitingAt R (bitAt lane) 0 s 0 false) k) (sym (bits-from (R .gap) lane 1))
 
   -- with one waiting, or by taking the first multiblock, or there is none
   record Begins (b : Begun) : Type 0 where
@@ -68,7 +69,7 @@ module _ (R : Row) (s : Receiver) (lane : List ℕ) where
   begins b e = subst Begins (sym e) (by (s .waiting) (ltb (length lane) L) refl refl)
     where
       by : (w t : Bool) → s .waiting ≡ w → ltb (length lane) L ≡ t
-          → Begins (pick w (record { state = s; taken = 0 }) (pick t (record { state = s; taken = 0 }) (record { state = waitingAt R (bitAt lane) 0 0 false; taken = 1 })))
+          → Begins (pick w (record { state = s; taken = 0 }) (pick t (record { state = s; taken = 0 }) (record { state = waitingAt R (bitAt lane) 0 s 0 false; taken = 1 })))
       by true t ew et = as-is (λ _. ew) (sym (ap (λ (w : Bool). releases w n) ew))
       by false true ew et =
           let none : n ≡ 0 = div-eq-of-lt (ltb-true (length lane) L et) in
@@ -100,7 +101,7 @@ module _ (mode : ℕ) (s : Receiver) (lane o st c p q i : List ℕ) (refusal : �
     ok : Accepted mode s (length lane) (length o) (length st) (length c) (length p) (length q) (length i)
     ok = accepted mode s (length lane) (length o) (length st) (length c) (length p) (length q) (length i) (sym e ∙ z)
 
-    is-run : entry mode s lane o st c p q i ≡ laidOut (run R (bitAt lane) s (n R s lane)) o st c p q i
+    is-run : entry mode s lane o st c p q i ≡ laidOut (totalled (run R (bitAt lane) s (n R s lane))) o st c p q i
     unfolding entry
     is-run = rw (← e, eq-eqb refusal 0 z)
 
@@ -138,14 +139,14 @@ module _ (mode : ℕ) (s : Receiver) (lane o st c p q i : List ℕ) (refusal : �
       )
 
       pub is-all : (own : Row) → own ≡ R → (size : ℕ) → size ≡ laneOctets (R .gap) → (r : Received) (o′ st′ c′ p′ q′ i′ : List ℕ)
-          → done r o′ st′ c′ p′ q′ i′ ≡ laidOut (run own (bitAt (take (length lane - size * b .taken) (drop (size * b .taken) lane))) (b .state) (length lane / size - b .taken)) o st c p q i
+          → done r o′ st′ c′ p′ q′ i′ ≡ laidOut (totalled (run own (bitAt (take (length lane - size * b .taken) (drop (size * b .taken) lane))) (b .state) (length lane / size - b .taken))) o st c p q i
           → done r o′ st′ c′ p′ q′ i′ ≡ entry mode s lane o st c p q i
       is-all own eo size es r o′ st′ c′ p′ q′ i′ h =
           h
-          ∙ ap (λ (x : Row). laidOut (run x (bitAt (take (length lane - size * b .taken) (drop (size * b .taken) lane))) (b .state) (length lane / size - b .taken)) o st c p q i) eo
-          ∙ ap (λ (x : ℕ). laidOut (run R (bitAt (take (length lane - x * b .taken) (drop (x * b .taken) lane))) (b .state) (length lane / x - b .taken)) o st c p q i) es
-          ∙ ap (λ (x : List ℕ). laidOut (run R (bitAt x) (b .state) (n R s lane - b .taken)) o st c p q i) (rest-of lane (L R s lane * b .taken))
-          ∙ ap (λ (x : Step). laidOut x o st c p q i) (sym (from .same))
+          ∙ ap (λ (x : Row). laidOut (totalled (run x (bitAt (take (length lane - size * b .taken) (drop (size * b .taken) lane))) (b .state) (length lane / size - b .taken))) o st c p q i) eo
+          ∙ ap (λ (x : ℕ). laidOut (totalled (run R (bitAt (take (length lane - x * b .taken) (drop (x * b .taken) lane))) (b .state) (length lane / x - b .taken))) o st c p q i) es
+          ∙ ap (λ (x : List ℕ). laidOut (totalled (run R (bitAt x) (b .state) (n R s lane - b .taken))) o st c p q i) (rest-of lane (L R s lane * b .taken))
+          ∙ ap (λ (x : Step). laidOut (totalled x) o st c p q i) (sym (from .same))
           ∙ sym is-run
 
 -- ---- an accepted call, by its answer
@@ -159,12 +160,12 @@ module _ (mode : ℕ) (s : Receiver) (lane o st c p q i : List ℕ) where
   answered = by (eqb refusal 0) refl
     where
       by : (b : Bool) → eqb refusal 0 ≡ b
-          → pick b (laidOut (run (row mode) (bitAt lane) s (length lane / laneOctets (row mode .gap))) o st c p q i) (done (record { refusal = refusal; count = 0; state = s }) o st c p q i) .answer .refusal ≡ refusal
+          → pick b (laidOut (totalled (run (row mode) (bitAt lane) s (length lane / laneOctets (row mode .gap)))) o st c p q i) (done (record { refusal = refusal; count = 0; state = s }) o st c p q i) .answer .refusal ≡ refusal
       by true e = sym (eqb-true refusal 0 e)
       by false e = refl
 
   module _ (z : entry mode s lane o st c p q i .answer .refusal ≡ 0) where
-    pub all-run : entry mode s lane o st c p q i ≡ laidOut (run (row mode) (bitAt lane) s (length lane / laneOctets (row mode .gap))) o st c p q i
+    pub all-run : entry mode s lane o st c p q i ≡ laidOut (totalled (run (row mode) (bitAt lane) s (length lane / laneOctets (row mode .gap)))) o st c p q i
     all-run = is-run mode s lane o st c p q i refusal refl (sym answered ∙ z)
 
     pub all-whole : length lane ≡ laneOctets (row mode .gap) * (length lane / laneOctets (row mode .gap))

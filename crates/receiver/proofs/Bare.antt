@@ -21,7 +21,7 @@ abbrev bareHeard : Heard → Heard
 bareHeard h = record { octets = h .octets; parts = h .parts; command = h .command; invalid = 0 }
 
 abbrev pub bareState : Receiver → Receiver
-bareState s = record { waiting = s .waiting; octets = s .octets; history = s .history; trusted = s .trusted; command = s .command; invalid = 0; own = s .own }
+bareState s = record { waiting = s .waiting; octets = s .octets; history = s .history; trusted = s .trusted; command = s .command; invalid = 0; own = s .own; sound = s .sound; repaired = s .repaired; failed = s .failed }
 
 abbrev pub bareRelease : Release → Release
 bareRelease r = record { octets = r .octets; status = r .status; command = r .command; place = r .place; pattern = r .pattern; invalid = 0 }

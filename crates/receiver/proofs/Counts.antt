@@ -27,7 +27,7 @@ module _ (R : Row) (lane : ℕ → ℕ) where
   unfolding step
   step-released m s w = simp w
 
-  pub step-first : (m : ℕ) (s : Receiver) → s .waiting ≡ false → step R lane m s ≡ record { state = waitingAt R lane m 0 false; out = [] }
+  pub step-first : (m : ℕ) (s : Receiver) → s .waiting ≡ false → step R lane m s ≡ record { state = waitingAt R lane m s 0 false; out = [] }
   unfolding step
   step-first m s w = simp w
 

@@ -41,7 +41,7 @@ module _ (R : Row) (s : Receiver) where
   }
 
   unfoldable pub waitingOn : ℕ → Bool → Heard → Receiver
-  waitingOn history trusted h = record { waiting = true; octets = h .octets; history = history; trusted = trusted; command = h .command; invalid = h .invalid; own = h .parts .own }
+  waitingOn history trusted h = record { waiting = true; octets = h .octets; history = history; trusted = trusted; command = h .command; invalid = h .invalid; own = h .parts .own; sound = s .sound; repaired = s .repaired; failed = s .failed }
 
   unfoldable pub stepOn : Heard → Step
   stepOn h =

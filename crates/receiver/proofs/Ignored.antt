@@ -15,6 +15,7 @@ use Rattle.frame.proofs.Lane.{same-sync, same-invalid}
 use Rattle.frame.proofs.Places.{data-is, header-same, header-in-none, second-in-none, data-in-none}
 use Rattle.receiver.specs.declared.Receiver.{Receiver}
 use Rattle.receiver.specs.Release.{Step, run}
+use Rattle.receiver.specs.Totals.{totalled}
 use Rattle.receiver.specs.Refusal.{refusalOf}
 use Rattle.receiver.specs.Entry.{done, laidOut, entry}
 use Rattle.receiver.proofs.Cut.{same-reading}
@@ -48,6 +49,6 @@ gaps-ignored mode s lane other o st c p q i long same =
     let L = laneOctets (R .gap) in
     ap₂ (λ (n : ℕ) (t : Step).
     let refusal = refusalOf mode s n (length o) (length st) (length c) (length p) (length q) (length i) in
-    pick (eqb refusal 0) (laidOut t o st c p q i) (done (record { refusal = refusal; count = 0; state = s }) o st c p q i))
+    pick (eqb refusal 0) (laidOut (totalled t) o st c p q i) (done (record { refusal = refusal; count = 0; state = s }) o st c p q i))
     long
     (run-ignores R (bitAt lane) (bitAt other) same s (length lane / L) ∙ ap (λ (n : ℕ). run R (bitAt other) s (n / L)) long)

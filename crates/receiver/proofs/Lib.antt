@@ -1,6 +1,8 @@
 -- Laws of what the receiver releases.
 pub mod Refusals
 pub mod Cut
+pub mod Carried
+pub mod Totalled
 pub mod Ignored
 pub mod Bare
 pub mod Counts

@@ -103,11 +103,11 @@ module _ (R : Row) (lane : ℕ → ℕ) where
   first-trusted = refl
 
   step-next : (m : ℕ) (s : Receiver) → s .waiting ≡ true
-      → step R lane m s .state ≡ waitingAt R lane m (number (bitAt (mendedAt R lane m s)) 1990 58) (trustedAfter (verdictAt R lane m s))
+      → step R lane m s .state ≡ waitingAt R lane m s (number (bitAt (mendedAt R lane m s)) 1990 58) (trustedAfter (verdictAt R lane m s))
   unfolding step
   step-next m s w = simp w
 
-  next-state : (i : ℕ) → waiting (suc i) ≡ waitingAt R lane (suc i) (number (bitAt (repaired i)) 1990 58) (trustedAfter (verdict i))
+  next-state : (i : ℕ) → waiting (suc i) ≡ waitingAt R lane (suc i) (waiting i) (number (bitAt (repaired i)) 1990 58) (trustedAfter (verdict i))
   next-state i = unfold run in (step-next (suc i) (waiting i) (waits i))
 
   pub next-history : (i : ℕ) → waiting (suc i) .history ≡ number (bitAt (repaired i)) 1990 58
@@ -150,6 +150,10 @@ column-append f [] b = refl
 column-append f (r ∷ a) b = ap (λ (l : List ℕ). f r ∷ l) (column-append f a b)
 
 -- nothing received releases nothing
+pub none-many : (R : Row) (lane : ℕ → ℕ) (s : Receiver) → length (run R lane s 0 .out) ≡ 0
+unfolding run
+none-many R lane s = refl
+
 pub none-out : (R : Row) (lane : ℕ → ℕ) (s : Receiver) → octetsOut (run R lane s 0 .out) ≡ []
 unfolding run octetsOut
 none-out R lane s = refl

@@ -9,7 +9,6 @@ use lib.Dec.{ltb, leb, eqb}
 use Rattle.bits.specs.Refusals.{_when_, refusalBy}
 use Rattle.bits.proofs.Choice.{parts-true}
 use Rattle.bits.proofs.Refusals.{not-given}
-use Rattle.frame.specs.declared.modes.Row.{Row}
 use Rattle.frame.specs.declared.modes.Numbers.{Numbers}
 use Rattle.frame.specs.Modes.{known, row, numbersOf}
 use Rattle.frame.specs.Lane.{laneOctets}
@@ -19,10 +18,12 @@ use Rattle.receiver.specs.inner.Turn.{Room}
 
 -- ---- the state
 
-pub all-fresh : (s : Receiver) (zeros : Bool) → s .history ≡ 0 → s .command ≡ 0 → s .invalid ≡ 0 → s .own ≡ 0 → s .trusted ≡ false → zeros ≡ allZero (s .octets) → zeros ≡ asFresh s
+pub all-fresh : (s : Receiver) (zeros : Bool) → s .history ≡ 0 → s .command ≡ 0 → s .invalid ≡ 0 → s .own ≡ 0
+    → s .sound ≡ 0 → s .repaired ≡ 0 → s .failed ≡ 0 → s .trusted ≡ false → zeros ≡ allZero (s .octets) → zeros ≡ asFresh s
 unfolding asFresh
-all-fresh s zeros h c i o t z =
-    z ∙ sym (simp (eq-eqb (s .history) 0 h, eq-eqb (s .command) 0 c, eq-eqb (s .invalid) 0 i, eq-eqb (s .own) 0 o, t))
+all-fresh s zeros h c i o a b d t z =
+    z
+    ∙ sym (simp (eq-eqb (s .history) 0 h, eq-eqb (s .command) 0 c, eq-eqb (s .invalid) 0 i, eq-eqb (s .own) 0 o, eq-eqb (s .sound) 0 a, eq-eqb (s .repaired) 0 b, eq-eqb (s .failed) 0 d, t))
 
 module _ (flagged owns : ℕ) (s : Receiver) where
   fits-by : Bool → Bool → Bool → Bool → Bool → Bool

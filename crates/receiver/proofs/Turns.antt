@@ -20,16 +20,18 @@ use Rattle.receiver.specs.declared.Receiver.{Receiver}
 use Rattle.receiver.specs.declared.run.Heard.{Heard}
 use Rattle.judge.specs.Judge.{judged, mended, releasedStatus, trustedAfter}
 use Rattle.receiver.specs.Release.{Release, Step, parityAt, verdictAt, mendedAt, releaseAt, waitingAt, step, run}
+use Rattle.receiver.specs.Totals.{added, total, totalled}
 use Rattle.receiver.specs.Entry.{octetsOut, column, done, laidOut}
 use Rattle.receiver.specs.inner.Turn.{heardAt, Room, Turned}
 use Rattle.receiver.proofs.Buffers.{column-more, column-length, octets-more, release-length, octets-length}
-use Rattle.receiver.proofs.Counts.{run-more, run-waits, all-counted, counted}
+use Rattle.receiver.proofs.Counts.{step-released, run-more, run-waits, all-counted, counted}
 use Rattle.receiver.proofs.Cut.{same-step, same-release, heard-from, bits-from}
+use Rattle.receiver.proofs.Carried.{same-released, step-carries, counted-on}
 
 -- ---- one turn
 
 -- what the code of a turn computes, put together
-pub turned : (R : Row) (s : Receiver) (lane : List ℕ) (k : ℕ) (o st c p q i o′ : List ℕ) (heard : Heard) (parity : ℕ) (r : Released)
+pub turned : (R : Row) (s : Receiver) (lane : List ℕ) (k : ℕ) (o st c p q i o′ : List ℕ) (heard : Heard) (parity : ℕ) (r : Released) (sound repaired failed : ℕ)
     → s .waiting ≡ true
     → 256 ≤ length o
     → heard ≡ heardAt R (bitAt lane) 0
@@ -39,15 +41,18 @@ pub turned : (R : Row) (s : Receiver) (lane : List ℕ) (k : ℕ) (o st c p q i 
     → r .history ≡ number (bitAt (mended (r .verdict) (s .octets))) 1990 58
     → r .trusted ≡ trustedAfter (r .verdict)
     → o′ ≡ laidAt (descrambled (mended (r .verdict) (s .octets)) (s .history) 256) 0 o
-    → Turned (step R (bitAt lane) 0 s .state) (releaseAt R (bitAt lane) 0 s) k
-    (record { waiting = true; octets = heard .octets; history = r .history; trusted = r .trusted; command = heard .command; invalid = heard .invalid; own = heard .parts .own })
+    → sound ≡ added 0 (s .sound) (r .status)
+    → repaired ≡ added 1 (s .repaired) (r .status)
+    → failed ≡ added 2 (s .failed) (r .status)
+    → Turned (totalled (step R (bitAt lane) 0 s) .state) (releaseAt R (bitAt lane) 0 s) k
+    (record { waiting = true; octets = heard .octets; history = r .history; trusted = r .trusted; command = heard .command; invalid = heard .invalid; own = heard .parts .own; sound = sound; repaired = repaired; failed = failed })
     o st c p q i o′ (set st k (r .status)) (set c k (s .command)) (set p k (r .verdict .place)) (set q k (r .verdict .pattern)) (set i k (s .invalid))
-unfolding step waitingAt releaseAt mendedAt verdictAt parityAt heardAt
-turned R s lane k o st c p q i o′ heard parity r w room eh ep ev em ey et eo =
+unfolding step waitingAt releaseAt mendedAt verdictAt parityAt heardAt total
+turned R s lane k o st c p q i o′ heard parity r sound repaired failed w room eh ep ev em ey et eo ea eb ec =
     let own : r .verdict ≡ verdictAt R (bitAt lane) 0 s =
     ev ∙ ap (judged (R .sync) (s .octets)) (ep ∙ ap (λ (h : Heard). whole (R .sync) (record { before = h .parts .before; own = s .own })) eh) in
     record {
-      state = rw (w, eh, ey, et, own);
+      state = rw (w, eh, ey, et, ea, eb, ec, em, own);
       octets = eo ∙ laid-start _ o (omega (arith, length-descrambled (mended (r .verdict) (s .octets)) (s .history) 256)) ∙ rw own;
       statuses = rw (em, own);
       commands = refl;
@@ -63,7 +68,7 @@ rest-of lane a = take-all (length lane - a) (drop a lane) (simp length-drop (ome
 -- ---- after k turns
 
 pub record Held (R : Row) (lane : ℕ → ℕ) (start : Receiver) (k : ℕ) (s : Receiver) (o₀ st₀ c₀ p₀ q₀ i₀ o st c p q i : List ℕ) : Type 0 where
-  pub state : s ≡ run R lane start k .state
+  pub state : s ≡ totalled (run R lane start k) .state
   pub octets : o ≡ laid (octetsOut (run R lane start k .out)) o₀
   pub statuses : st ≡ laid (column (λ (r : Release). r .status) (run R lane start k .out)) st₀
   pub commands : c ≡ laid (column (λ (r : Release). r .command) (run R lane start k .out)) c₀
@@ -78,7 +83,7 @@ pub record Held (R : Row) (lane : ℕ → ℕ) (start : Receiver) (k : ℕ) (s :
   pub invalid-long : length i ≡ length i₀
 
 pub held-none : (R : Row) (lane : ℕ → ℕ) (start : Receiver) (o st c p q i : List ℕ) → Held R lane start 0 start o st c p q i o st c p q i
-unfolding run octetsOut column
+unfolding run total octetsOut column
 held-none R lane start o st c p q i = record {
   state = refl;
   octets = sym (laid-nothing o);
@@ -110,7 +115,7 @@ module _ (R : Row) (lane : List ℕ) (start : Receiver) (k n : ℕ) (s : Receive
   still-waits = ap (λ (x : Receiver). x .waiting) (h .state) ∙ run-waits R (bitAt lane) start k w
 
   pub held-more : (rest : List ℕ) (r : Receiver) (part st′ c′ p′ q′ i′ : List ℕ) → rest ≡ drop (laneOctets (R .gap) * k) lane → length part ≡ length (midOf (256 * k) (length o - 256 * k) o)
-      → Turned (step R (bitAt rest) 0 s .state) (releaseAt R (bitAt rest) 0 s) k r (midOf (256 * k) (length o - 256 * k) o) st c p q i part st′ c′ p′ q′ i′
+      → Turned (totalled (step R (bitAt rest) 0 s) .state) (releaseAt R (bitAt rest) 0 s) k r (midOf (256 * k) (length o - 256 * k) o) st c p q i part st′ c′ p′ q′ i′
       → Held R (bitAt lane) start (k + 1) r o₀ st₀ c₀ p₀ q₀ i₀ (putMid (256 * k) (length o - 256 * k) o part) st′ c′ p′ q′ i′
   held-more rest r part st′ c′ p′ q′ i′ er lp t =
       let f = bitAt lane in
@@ -118,13 +123,19 @@ module _ (R : Row) (lane : List ℕ) (start : Receiver) (k n : ℕ) (s : Receive
       let out = releaseAt R f k (was .state) in
       let heard : heardAt R (bitAt rest) 0 ≡ heardAt R f k =
       ap (λ (x : List ℕ). heardAt R (bitAt x) 0) er ∙ ap (λ (g : ℕ → ℕ). heardAt R g 0) (bits-from (R .gap) lane k) ∙ sym (heard-from R f k 0) ∙ ap (heardAt R f) (omega arith) in
-      let is : releaseAt R (bitAt rest) 0 s ≡ out = ap (releaseAt R (bitAt rest) 0) (h .state) ∙ same-release R (was .state) (bitAt rest) 0 f k heard in
-      let next : step R (bitAt rest) 0 s ≡ step R f k (was .state) = ap (step R (bitAt rest) 0) (h .state) ∙ same-step R (was .state) (bitAt rest) 0 f k heard in
+      let is : releaseAt R (bitAt rest) 0 s ≡ out =
+      same-release R s (bitAt rest) 0 f k heard ∙ ap (releaseAt R f k) (h .state) ∙ same-released R f k _ _ _ (was .state) in
+      let next : step R (bitAt rest) 0 s ≡ step R f k (totalled was .state) = same-step R s (bitAt rest) 0 f k heard ∙ ap (step R f k) (h .state) in
       let more = run-more R f start k w in
       let outs : was .out ++ (out ∷ []) ≡ run R f start (k + 1) .out = sym (ap (λ (x : Step). x .out) more) in
       let l : length (was .out) ≡ k = all-counted R f start k w in
       record {
-        state = t .state ∙ ap (λ (x : Step). x .state) next ∙ sym (ap (λ (x : Step). x .state) more);
+        state =
+            t .state
+            ∙ ap (λ (x : Step). totalled x .state) next
+            ∙ counted-on (step R f k) (step-carries R f k) was
+            ∙ ap (λ (x : List Release). totalled (record { state = step R f k (was .state) .state; out = was .out ++ x }) .state) (step-released R f k (was .state) (run-waits R f start k w))
+            ∙ sym (ap (λ (x : Step). totalled x .state) more);
         octets =
             laid-part (octetsOut (was .out)) (out .octets) o₀ o part (256 * k) (octets-length R f start k w) (h .octets) (h .octets-long)
             (omega (arith, room .octets-fit, release-length R f k (was .state)))
@@ -156,10 +167,10 @@ module _ (R : Row) (lane : List ℕ) (start : Receiver) (k n : ℕ) (s : Receive
 
 -- all turns
 pub held-all : (R : Row) (lane : ℕ → ℕ) (start : Receiver) (k n : ℕ) (s : Receiver) (o₀ st₀ c₀ p₀ q₀ i₀ o st c p q i : List ℕ) → (0 < n → start .waiting ≡ true) → k ≡ n
-    → Held R lane start k s o₀ st₀ c₀ p₀ q₀ i₀ o st c p q i → done (record { refusal = 0; count = n; state = s }) o st c p q i ≡ laidOut (run R lane start n) o₀ st₀ c₀ p₀ q₀ i₀
+    → Held R lane start k s o₀ st₀ c₀ p₀ q₀ i₀ o st c p q i → done (record { refusal = 0; count = n; state = s }) o st c p q i ≡ laidOut (totalled (run R lane start n)) o₀ st₀ c₀ p₀ q₀ i₀
 held-all R lane start k n s o₀ st₀ c₀ p₀ q₀ i₀ o st c p q i w e h =
     rw (h .state, h .octets, h .statuses, h .commands, h .places, h .patterns, h .invalid, ← e)
-    (ap (λ (j : ℕ). done (record { refusal = 0; count = j; state = run R lane start k .state })
+    (ap (λ (j : ℕ). done (record { refusal = 0; count = j; state = totalled (run R lane start k) .state })
     (laid (octetsOut (run R lane start k .out)) o₀)
     (laid (column (λ (r : Release). r .status) (run R lane start k .out)) st₀)
     (laid (column (λ (r : Release). r .command) (run R lane start k .out)) c₀)

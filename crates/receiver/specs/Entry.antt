@@ -1,5 +1,5 @@
 -- What a call of the receiver answers, and what the lent buffers hold after it: document 01, "What the receiver releases" and "Numbers of
--- refusal". Assumes nothing.
+-- refusal"; request 7. Assumes nothing.
 use mathlib.Core.List.{List, [], _∷_, _++_}
 use Prim.Native.Nat.{ℕ, _/_}
 use lib.Dec.{eqb}
@@ -11,6 +11,7 @@ use Rattle.frame.specs.Lane.{laneOctets}
 use Rattle.receiver.specs.declared.Receiver.{Receiver}
 use Rattle.receiver.specs.declared.Received.{Received}
 use Rattle.receiver.specs.Release.{Release, Step, run}
+use Rattle.receiver.specs.Totals.{totalled}
 use Rattle.receiver.specs.Refusal.{refusalOf}
 
 -- all octets released, and a number of each release
@@ -46,10 +47,10 @@ laidOut t o s c p q i =
     (laid (column (λ (r : Release). r .pattern) (t .out)) q)
     (laid (column (λ (r : Release). r .invalid) (t .out)) i)
 
--- refused, with all as it was; or a run over all multiblocks of the lane
+-- refused, with all as it was; or a run over all multiblocks of the lane, with what it released counted
 unfoldable pub entry : ℕ → Receiver → List ℕ → List ℕ → List ℕ → List ℕ → List ℕ → List ℕ → List ℕ → Done
 entry mode s lane o st c p q i =
     let refusal = refusalOf mode s (length lane) (length o) (length st) (length c) (length p) (length q) (length i) in
     pick (eqb refusal 0)
-    (laidOut (run (row mode) (bitAt lane) s (length lane / laneOctets (row mode .gap))) o st c p q i)
+    (laidOut (totalled (run (row mode) (bitAt lane) s (length lane / laneOctets (row mode .gap)))) o st c p q i)
     (done (record { refusal = refusal; count = 0; state = s }) o st c p q i)

@@ -1,5 +1,6 @@
 -- What a receiver releases, and what it refuses.
 pub mod Release
+pub mod Totals
 pub mod Refusal
 pub mod Entry
 pub mod inner

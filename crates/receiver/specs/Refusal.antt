@@ -1,11 +1,10 @@
--- What a receiver refuses, and by which number: document 01, "Numbers of refusal"; requests 1 and 5. Assumes nothing.
+-- What a receiver refuses, and by which number: document 01, "Numbers of refusal"; requests 1, 5 and 7. Assumes nothing.
 use mathlib.Core.Bool.{Bool, true, not, _&&_, _||_}
 use mathlib.Core.List.{List, [], _∷_}
 use Prim.Native.Nat.{ℕ, _-_, _*_, _/_, _%_, _^_}
 use lib.Dec.{ltb, leb, eqb}
 use Rattle.bits.specs.Choice.{pick}
 use Rattle.bits.specs.Refusals.{Line, _when_, refusalBy}
-use Rattle.frame.specs.declared.modes.Numbers.{Numbers}
 use Rattle.frame.specs.Modes.{known, row, numbersOf}
 use Rattle.receiver.specs.declared.Receiver.{Receiver}
 
@@ -15,7 +14,9 @@ allZero (x ∷ l) = eqb x 0 && allZero l
 
 -- all but the waiting flag is as in a fresh state
 unfoldable pub asFresh : Receiver → Bool
-asFresh s = (eqb (s .history) 0 && (eqb (s .command) 0 && (eqb (s .invalid) 0 && eqb (s .own) 0))) && (not (s .trusted) && allZero (s .octets))
+asFresh s =
+    (eqb (s .history) 0 && (eqb (s .command) 0 && (eqb (s .invalid) 0 && eqb (s .own) 0)))
+    && ((eqb (s .sound) 0 && (eqb (s .repaired) 0 && eqb (s .failed) 0)) && (not (s .trusted) && allZero (s .octets)))
 
 -- each field of a state is in its range, its command and its own part of the parity below bounds, and with nothing waiting all are as in a fresh one
 unfoldable pub stateFits : ℕ → ℕ → Receiver → Bool

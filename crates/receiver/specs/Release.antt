@@ -1,5 +1,5 @@
 -- A multiblock waits until the next one has arrived with its parity, and is then released: document 01, "What the receiver releases";
--- requests 1 and 5.
+-- requests 1, 5 and 7.
 -- A lane is a stream of bits; multiblock m of it is the next to be received. Assumes nothing.
 use mathlib.Core.Bool.{Bool, true, false}
 use mathlib.Core.List.{List, [], _∷_, _++_}
@@ -16,9 +16,9 @@ use Rattle.judge.specs.declared.Verdict.{Verdict}
 use Rattle.receiver.specs.declared.Receiver.{Receiver}
 use Rattle.judge.specs.Judge.{judged, mended, releasedStatus, trustedAfter}
 
--- nothing waiting, history 0 and no trust
+-- nothing waiting, history 0 and no trust, and nothing counted
 abbrev pub fresh : Receiver
-fresh = record { waiting = false; octets = replicate 256 0; history = 0; trusted = false; command = 0; invalid = 0; own = 0 }
+fresh = record { waiting = false; octets = replicate 256 0; history = 0; trusted = false; command = 0; invalid = 0; own = 0; sound = 0; repaired = 0; failed = 0 }
 
 pub record Release : Type 0 where
   pub octets : List ℕ
@@ -55,9 +55,9 @@ module _ (R : Row) (lane : ℕ → ℕ) where
     invalid = s .invalid;
   }
 
-  -- multiblock m waits from now on, after a history that is trusted or not
-  unfoldable pub waitingAt : ℕ → ℕ → Bool → Receiver
-  waitingAt m history trusted = record {
+  -- multiblock m waits from now on, after a history that is trusted or not, with the counts of the state before (request 7)
+  unfoldable pub waitingAt : ℕ → Receiver → ℕ → Bool → Receiver
+  waitingAt m s history trusted = record {
     waiting = true;
     octets = dataOctets (R .gap) lane m;
     history = history;
@@ -65,14 +65,17 @@ module _ (R : Row) (lane : ℕ → ℕ) where
     command = flaggedCommand (R .sync) (headerAt (R .gap) lane m);
     invalid = invalidHeaders (R .gap) lane m;
     own = readParity (R .sync) own (syncBit (R .gap) lane m);
+    sound = s .sound;
+    repaired = s .repaired;
+    failed = s .failed;
   }
 
   -- multiblock m is received: the one that waits, if there is one, is released; the next history is its last 58 bits, mended
   unfoldable pub step : ℕ → Receiver → Step
   step m s =
       pick (s .waiting)
-      (record { state = waitingAt m (number (bitAt (mendedAt m s)) 1990 58) (trustedAfter (verdictAt m s)); out = releaseAt m s ∷ [] })
-      (record { state = waitingAt m 0 false; out = [] })
+      (record { state = waitingAt m s (number (bitAt (mendedAt m s)) 1990 58) (trustedAfter (verdictAt m s)); out = releaseAt m s ∷ [] })
+      (record { state = waitingAt m s 0 false; out = [] })
 
   -- the first n multiblocks are received
   unfoldable pub run : Receiver → ℕ → Step

@@ -9,7 +9,8 @@ mod run;
 use frame::modes;
 
 // What a receiver carries from one call to the next: whether a multiblock waits, its 256 scrambled octets, the history before it, whether
-// that is trusted, its command, how many of its headers were invalid, and what its own sync word carried of its parity (request 5).
+// that is trusted, its command, how many of its headers were invalid, and what its own sync word carried of its parity (request 5); and how
+// many were released sound, repaired and failed so far (request 7).
 pub struct Receiver {
     pub waiting: bool,
     pub octets: [u8; 256],
@@ -18,6 +19,9 @@ pub struct Receiver {
     pub command: u32,
     pub invalid: u8,
     pub own: u16,
+    pub sound: u32,
+    pub repaired: u32,
+    pub failed: u32,
 }
 
 // A refusal, or 0 with the multiblocks released; and the state for the next call.
@@ -39,6 +43,9 @@ impl Receiver {
             command: 0,
             invalid: 0,
             own: 0,
+            sound: 0,
+            repaired: 0,
+            failed: 0,
         }
     }
 }

@@ -34,6 +34,15 @@ fn as_fresh(state: Receiver) -> bool
     if state.own != 0 {
         return false;
     }
+    if state.sound != 0 {
+        return false;
+    }
+    if state.repaired != 0 {
+        return false;
+    }
+    if state.failed != 0 {
+        return false;
+    }
     if state.trusted {
         return false;
     }

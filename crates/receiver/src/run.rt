@@ -8,6 +8,7 @@ ghost use Rattle.frame.specs.Modes.{mostOfAll};
 ghost use Rattle.frame.specs.Lane.{laneOctets};
 ghost use Rattle.multiblock.specs.Shape.{shape};
 ghost use Rattle.receiver.specs.Release.{releaseAt, step, run};
+ghost use Rattle.receiver.specs.Totals.{added, totalled};
 ghost use Rattle.receiver.specs.Entry.{done, laidOut};
 ghost use Rattle.receiver.specs.inner.Turn.{heardAt, begunBy, Turned, Room};
 use crate::Received;
@@ -74,6 +75,9 @@ pub(crate) fn begin(row: Row, size: usize, state: Receiver, lane: &[u8]) -> Begu
         command: first.command,
         invalid: first.invalid,
         own: parts.own,
+        sound: state.sound,
+        repaired: state.repaired,
+        failed: state.failed,
     };
     Begun {
         state: waiting,
@@ -81,7 +85,22 @@ pub(crate) fn begin(row: Row, size: usize, state: Receiver, lane: &[u8]) -> Begu
     }
 }
 
-// The multiblock at the start of `lane` is received, and the one that waits is released as number k: its octets to the start of `octets`.
+// A count of releases of a kind (0 sound, 1 repaired, 2 failed) after one of this status: request 7. Statuses 4, 5 and 6 are counted as 0, 1
+// and 2. It stops at the greatest number and stays there.
+fn added(kind: u8, count: u32, status: u8) -> u32
+    ensures { λ r. ⌜ r ≡ added kind count status ⌝ }
+{
+    if status % 4 != kind {
+        return count;
+    }
+    if count == 0xFFFF_FFFF {
+        return count;
+    }
+    count + 1
+}
+
+// The multiblock at the start of `lane` is received, and the one that waits is released as number k, and counted: its octets to the start of
+// `octets`.
 fn release(
     row: Row,
     state: Receiver,
@@ -96,7 +115,7 @@ fn release(
 ) -> Receiver
     requires { ⌜ (shape (row .gap) ≡ row .gap) × (laneOctets (row .gap) ≤ length (now lane)) × (state .waiting ≡ true) × (256 ≤ length (now octets)) ⌝ }
     requires { ⌜ (k < mostOfAll) × (k < length (now statuses)) × (k < length (now commands)) × (k < length (now places)) × (k < length (now patterns)) × (k < length (now invalid)) ⌝ }
-    ensures { λ r. ⌜ Turned (step row (bitAt (now (lane .entry))) 0 state .state) (releaseAt row (bitAt (now (lane .entry))) 0 state) k r
+    ensures { λ r. ⌜ Turned (totalled (step row (bitAt (now (lane .entry))) 0 state) .state) (releaseAt row (bitAt (now (lane .entry))) 0 state) k r
         (now (octets .entry)) (now (statuses .entry)) (now (commands .entry)) (now (places .entry)) (now (patterns .entry)) (now (invalid .entry))
         (now (octets .exit)) (now (statuses .exit)) (now (commands .exit)) (now (places .exit)) (now (patterns .exit)) (now (invalid .exit)) ⌝ }
 {
@@ -117,7 +136,8 @@ fn release(
         octets,
     );
     let verdict = released.verdict;
-    statuses[k] = released.status;
+    let status = released.status;
+    statuses[k] = status;
     commands[k] = state.command;
     places[k] = verdict.place;
     patterns[k] = verdict.pattern;
@@ -131,6 +151,9 @@ fn release(
         command: heard.command,
         invalid: heard.invalid,
         own: parts.own,
+        sound: added(0, state.sound, status),
+        repaired: added(1, state.repaired, status),
+        failed: added(2, state.failed, status),
     }
 }
 
@@ -152,7 +175,7 @@ pub(crate) fn run(
     requires { ⌜ (0 < n → start .waiting ≡ true) × (size * n ≤ length (now lane)) × (n ≤ mostOfAll) ⌝ }
     requires { ⌜ Room n (length (now octets)) (length (now statuses)) (length (now commands)) (length (now places)) (length (now patterns)) (length (now invalid)) ⌝ }
     ensures { λ r. ⌜ done r (now (octets .exit)) (now (statuses .exit)) (now (commands .exit)) (now (places .exit)) (now (patterns .exit)) (now (invalid .exit))
-        ≡ laidOut (run row (bitAt (now (lane .entry))) start n)
+        ≡ laidOut (totalled (run row (bitAt (now (lane .entry))) start n))
         (now (octets .entry)) (now (statuses .entry)) (now (commands .entry)) (now (places .entry)) (now (patterns .entry)) (now (invalid .entry)) ⌝ }
 {
     let mut state = start;

@@ -49,14 +49,14 @@ number-back Locked = refl
 pub receiver-numbers : (x : ReceiverNumbers) → T (receivers.fit x) → receivers.asNumbers (receivers.stateOf x) ≡ x
 unfolding receivers.fit receivers.asNumbers receivers.stateOf
 receiver-numbers x h =
-    ap₂ (λ (w t : ℕ). record { history = x .history; command = x .command; waiting = w; trusted = t; octets = x .octets; invalid = x .invalid; own = x .own })
+    ap₂ (λ (w t : ℕ). record { history = x .history; command = x .command; waiting = w; trusted = t; octets = x .octets; invalid = x .invalid; own = x .own; sound = x .sound; repaired = x .repaired; failed = x .failed })
     (bool-back (x .waiting) (leb→le (x .waiting) 1 (left (isBool (x .waiting)) (isBool (x .trusted)) h)))
     (bool-back (x .trusted) (leb→le (x .trusted) 1 (right (isBool (x .waiting)) (isBool (x .trusted)) h)))
 
 pub receiver-state : (s : Receiver) → receivers.stateOf (receivers.asNumbers s) ≡ s
 unfolding receivers.asNumbers receivers.stateOf
 receiver-state s =
-    ap₂ (λ (w t : Bool). record { waiting = w; octets = s .octets; history = s .history; trusted = t; command = s .command; invalid = s .invalid; own = s .own })
+    ap₂ (λ (w t : Bool). record { waiting = w; octets = s .octets; history = s .history; trusted = t; command = s .command; invalid = s .invalid; own = s .own; sound = s .sound; repaired = s .repaired; failed = s .failed })
     (bit-back (s .waiting)) (bit-back (s .trusted))
 
 pub receiver-fits : (s : Receiver) → T (receivers.fit (receivers.asNumbers s))

@@ -1,5 +1,5 @@
 -- A receiver's state as numbers: which numbers fit, the state that they stand for, and back (document 01, "What the receiver releases";
--- request 5).
+-- requests 5 and 7).
 -- Assumes nothing.
 use mathlib.Core.Bool.{Bool, _&&_}
 use Rattle.bits.specs.Choice.{bitOf}
@@ -21,6 +21,9 @@ stateOf x = record {
   command = x .command;
   invalid = x .invalid;
   own = x .own;
+  sound = x .sound;
+  repaired = x .repaired;
+  failed = x .failed;
 }
 
 unfoldable pub asNumbers : Receiver → ReceiverNumbers
@@ -32,4 +35,7 @@ asNumbers s = record {
   octets = s .octets;
   invalid = s .invalid;
   own = s .own;
+  sound = s .sound;
+  repaired = s .repaired;
+  failed = s .failed;
 }

@@ -14,6 +14,9 @@ pub struct ReceiverNumbers {
     pub octets: [u8; 256],
     pub invalid: u8,
     pub own: u16,
+    pub sound: u32,
+    pub repaired: u32,
+    pub failed: u32,
 }
 
 // Whether both bools are 0 or 1.
@@ -36,6 +39,9 @@ pub(crate) fn state_of(given: ReceiverNumbers) -> Receiver
         command: given.command,
         invalid: given.invalid,
         own: given.own,
+        sound: given.sound,
+        repaired: given.repaired,
+        failed: given.failed,
     }
 }
 
@@ -52,5 +58,8 @@ pub(crate) fn as_numbers(state: Receiver) -> ReceiverNumbers
         octets,
         invalid: state.invalid,
         own: state.own,
+        sound: state.sound,
+        repaired: state.repaired,
+        failed: state.failed,
     }
 }

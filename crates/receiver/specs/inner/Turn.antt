@@ -29,7 +29,7 @@ unfoldable pub begunBy : Row → Receiver → List ℕ → Begun
 begunBy R s lane =
     pick (s .waiting) (record { state = s; taken = 0 })
     (pick (ltb (length lane) (laneOctets (R .gap))) (record { state = s; taken = 0 })
-    (record { state = waitingAt R (bitAt lane) 0 0 false; taken = 1 }))
+    (record { state = waitingAt R (bitAt lane) 0 s 0 false; taken = 1 }))
 
 -- buffers of these lengths hold what k releases write
 pub record Room (k octets statuses commands places patterns invalid : ℕ) : Type 0 where

@@ -41,6 +41,15 @@ slice-write-patterns c = search needs
 slice-write-invalid : tie.Need-slice-write-invalid
 slice-write-invalid c = search needs
 
+added-requires : tie.Need-added-requires
+added-requires c κs = search needs
+
+added-requires-2 : tie.Need-added-requires-2
+added-requires-2 c κs = search needs
+
+added-requires-3 : tie.Need-added-requires-3
+added-requires-3 c κs = search needs
+
 same-length : tie.Need-same-length
 same-length c = search needs
 
@@ -61,7 +70,10 @@ same-length-6 c = search needs
 
 returns : tie.Need-returns
 returns c =
-    let written = c .before .before .before .before in
+    let third = c .added3 in
+    let second = c .before .added2 in
+    let first = c .before .before .added in
+    let written = c .before .before .before .before .before .before .before in
     let w = written .before .before in
     let h = w .before .before .before in
     let s = h .before .before .before .before .before .before .before .before in
@@ -69,8 +81,8 @@ returns c =
     let pre = s .pre in
     let r = written .release in
     let e = r .ensures in
-    turned (a .row) (a .state) (now (a .lane)) (a .k) (now (a .octets)) (now (a .statuses)) (now (a .commands)) (now (a .places)) (now (a .patterns)) (now (a .invalid)) _ (h .hear .result) (w .whole .result) (r .result)
-    (pre .0 .2) (pre .0 .3) (h .hear .ensures) (w .whole .ensures) (e .0) (e .1 .0) (e .1 .1 .0) (e .1 .1 .1 .0) (e .1 .1 .1 .1)
+    turned (a .row) (a .state) (now (a .lane)) (a .k) (now (a .octets)) (now (a .statuses)) (now (a .commands)) (now (a .places)) (now (a .patterns)) (now (a .invalid)) _ (h .hear .result) (w .whole .result) (r .result) (first .result) (second .result) (third .result)
+    (pre .0 .2) (pre .0 .3) (h .hear .ensures) (w .whole .ensures) (e .0) (e .1 .0) (e .1 .1 .0) (e .1 .1 .1 .0) (e .1 .1 .1 .1) (first .ensures) (second .ensures) (third .ensures)
 
 pub release-spec : {M : Type 1} → statement M
 release-spec =
@@ -87,6 +99,9 @@ release-spec =
     mul-patterns
     slice-write-patterns
     slice-write-invalid
+    added-requires
+    added-requires-2
+    added-requires-3
     same-length
     same-length-2
     same-length-3
