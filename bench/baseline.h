@@ -63,7 +63,13 @@ static inline int state_fits(u8 mode, const struct zaytulobe_receiver *state) {
     u8 any = 0;
     for (int k = 0; k < USER_OCTETS; k++)
         any |= state->octets[k];
-    return !any && !state->history && !state->command && !state->trusted && !state->invalid && !state->own;
+    int counts = state->sound || state->repaired || state->failed;
+    return !any && !state->history && !state->command && !state->trusted && !state->invalid && !state->own && !counts;
+}
+
+/* So many more, but no more than the greatest number. */
+static inline u32 count_on(u32 before, u32 more) {
+    return more < 0xffffffff - before ? before + more : 0xffffffff;
 }
 
 static inline u8 receive_refusal(u8 mode, const struct zaytulobe_receiver *state, size lane_length, size octets_length,

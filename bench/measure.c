@@ -74,7 +74,7 @@ static struct zaytulobe_receiver before;
 
 /* Everything that a call answers. */
 static struct results {
-    u64 numbers[8];
+    u64 numbers[11];
     u8 lane[MOST_LANE_OCTETS * MOST], octets[USER_OCTETS * MOST], statuses[MOST], waiting[USER_OCTETS], text[ZAYTULOBE_LONGEST_TEXT];
     u32 commands[MOST];
     u16 places[MOST], patterns[MOST];
@@ -149,8 +149,8 @@ static void turn(const struct made *made, const struct library *library, struct 
             made->mode, before, lane + one, one * n, to->octets, sizeof to->octets, to->statuses, MOST,
             to->commands, MOST, to->places, MOST, to->patterns, MOST, to->invalid, MOST);
         struct zaytulobe_receiver *state = &received.state;
-        u64 numbers[8] = {received.refusal, received.count, state->history, state->command, state->waiting, state->trusted,
-            state->invalid, state->own};
+        u64 numbers[11] = {received.refusal, received.count, state->history, state->command, state->waiting, state->trusted,
+            state->invalid, state->own, state->sound, state->repaired, state->failed};
         memcpy(to->numbers, numbers, sizeof numbers);
         memcpy(to->waiting, state->octets, USER_OCTETS);
     } else {

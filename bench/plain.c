@@ -196,6 +196,12 @@ static u64 descramble(const u8 *octets, u64 history, u8 *out) {
     return history & ((1ul << 58) - 1);
 }
 
+/* One more release with this status; that the history before it wasn't trusted makes no difference. */
+static void count_release(struct zaytulobe_receiver *state, u8 status) {
+    u32 *count = status == ZAYTULOBE_AGREES ? &state->sound : status == ZAYTULOBE_REPAIRED ? &state->repaired : &state->failed;
+    *count = count_on(*count, 1);
+}
+
 static void await(struct zaytulobe_receiver *state, const struct heard *heard) {
     state->waiting = 1;
     state->command = heard->command;
@@ -230,6 +236,7 @@ RECEIVE(plain_receive) {
             patterns[released] = pattern;
             invalid[released++] = now->invalid;
             now->trusted = status != ZAYTULOBE_FAILED;
+            count_release(now, status);
         }
         await(now, &heard);
     }

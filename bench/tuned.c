@@ -373,10 +373,11 @@ struct outputs {
     u8 *invalid;
 };
 
-/* The waiting multiblock stays in 32 words from turn to turn; two sets of words change places. */
+/* The waiting multiblock stays in 32 words from turn to turn; two sets of words change places. Releases are counted by their status
+   without the part for an untrusted history, and added to the state's counts at the end. */
 FOR_EACH_MODE size receive_all(u8 mode, struct zaytulobe_receiver *state, const u8 *lane, size count, struct outputs out) {
     u64 both[2][BLOCKS], *words = both[0], *next = both[1], history = state->history;
-    u32 command = state->command, trusted = state->trusted, own = state->own;
+    u32 command = state->command, trusted = state->trusted, own = state->own, of_status[3] = {0};
     u8 invalid = state->invalid;
     size released = 0;
     if (state->waiting)
@@ -406,6 +407,7 @@ FOR_EACH_MODE size receive_all(u8 mode, struct zaytulobe_receiver *state, const 
             out.patterns[released] = pattern;
             out.invalid[released++] = invalid;
             trusted = status != ZAYTULOBE_FAILED;
+            of_status[status]++;
         }
         command = command_in(mode, sync) + (command_in(mode, equal) ? (u32)ZAYTULOBE_COMMAND_FLAG(mode) : 0);
         own = own_in(mode, sync);
@@ -420,6 +422,9 @@ FOR_EACH_MODE size receive_all(u8 mode, struct zaytulobe_receiver *state, const 
     state->command = command;
     state->invalid = invalid;
     state->own = (u16)own;
+    state->sound = count_on(state->sound, of_status[ZAYTULOBE_AGREES]);
+    state->repaired = count_on(state->repaired, of_status[ZAYTULOBE_REPAIRED]);
+    state->failed = count_on(state->failed, of_status[ZAYTULOBE_FAILED]);
     state->trusted = (u8)trusted;
     state->waiting = 1;
     return released;
