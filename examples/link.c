@@ -1,8 +1,8 @@
 /* Sends four multiblocks in FEC mode, flips a burst of nine lane bits, the first of them in a header, receives what is left,
-   and prints what came back; then steps the locks by the lane's headers, and lists the lane as a capture. Then it sends and
-   receives the same octets with blocks of 80 bits, one multiblock a call: the state takes the register of the fill bits from each
-   call to the next. At last it sends them with a message in the stand-alone command channel, and reads it from what came back.
-   Compiles as C and as C++. */
+   and prints what came back, with the totals of the receiver's state; then steps the locks by the lane's headers, and lists the
+   lane as a capture. Then it sends and receives the same octets with blocks of 80 bits, one multiblock a call: the state takes
+   the register of the fill bits from each call to the next. At last it sends them with a message in the stand-alone command
+   channel, and reads it from what came back. Compiles as C and as C++. */
 #include "zaytulobe.h"
 
 #ifdef __cplusplus
@@ -45,6 +45,8 @@ static void receive(void) {
     for (zaytulobe_size k = 0; k < count; k++)
         printf("multiblock %lu: status %d, place %d, pattern %d, invalid headers %d\n", k, statuses[k], places[k], patterns[k],
             invalid[k]);
+    const struct zaytulobe_receiver *state = &received.state;
+    printf("totals: sound %u, repaired %u, failed %u\n", state->sound, state->repaired, state->failed);
     for (zaytulobe_size k = 0; k < come; k++)
         same += octets[k] == user[k];
     printf("%lu of %lu octets as they were sent\n", same, come);

@@ -81,7 +81,7 @@ static void run_sent(u8 mode) {
 static int same_receiver(struct zaytulobe_receiver one, struct zaytulobe_receiver other) {
     return one.history == other.history && one.command == other.command && one.waiting == other.waiting
         && one.trusted == other.trusted && memcmp(one.octets, other.octets, USER_OCTETS) == 0 && one.invalid == other.invalid
-        && one.own == other.own;
+        && one.own == other.own && one.sound == other.sound && one.repaired == other.repaired && one.failed == other.failed;
 }
 
 /* In mode 4, where each field of a receiver has more than one value. */
@@ -108,6 +108,33 @@ static void run_receiver(void) {
     try_receiver("receiver.trusted", 1, fits[3], next[3]);
     try_receiver("receiver.invalid", 32, fits[4], next[4]);
     try_receiver("receiver.own, CRC-3", 511, fits[5], next[5]);
+}
+
+/* A count, which has no highest value: it may be any with one waiting, and alone it is refused with nothing waiting. Multiblock 1
+   gets as many flips as its status is to be: none, one, which is mended, or two, which no burst explains. Its release adds 1 to this
+   count alone. */
+static void try_count(const char *field, size status, struct zaytulobe_receiver fits, struct zaytulobe_receiver idle) {
+    make_lane(FEC, 1, 3);
+    for (size k = 0; k < status; k++)
+        flip_position(FEC, 1, 9 * k);
+    int fitting = receive(FEC, fits, 0, 1, &out, 0).refusal;
+    struct zaytulobe_received refused = receive(FEC, idle, 0, 1, &out, 0);
+    struct zaytulobe_receiver state = receive(FEC, zaytulobe_fresh_receiver(), 0, 2, &out, 0).state;
+    state.sound = 10, state.repaired = 20, state.failed = 30;
+    state = receive(FEC, state, 2, 1, &out, 0).state;
+    printf("%s: one waiting, 4294967295 %s; ", field, fitting == ZAYTULOBE_ACCEPTED ? "accepted" : "REFUSED");
+    printf("nothing waiting, 1 refused %d, ", refused.refusal);
+    printf("%s; ", same_receiver(refused.state, idle) ? "the state given" : "ANOTHER STATE");
+    printf("10 20 30 before status %d, then %u %u %u\n", out.statuses[0], state.sound, state.repaired, state.failed);
+}
+
+static void run_receiver_counts(void) {
+    struct zaytulobe_receiver fits[3] = {
+        {.waiting = 1, .sound = 4294967295}, {.waiting = 1, .repaired = 4294967295}, {.waiting = 1, .failed = 4294967295}};
+    struct zaytulobe_receiver idle[3] = {{.sound = 1}, {.repaired = 1}, {.failed = 1}};
+    try_count("receiver.sound", 0, fits[0], idle[0]);
+    try_count("receiver.repaired", 1, fits[1], idle[1]);
+    try_count("receiver.failed", 2, fits[2], idle[2]);
 }
 
 /* The two flags by what they do. Of 256 octets all but one 0: the release has its first octet that isn't 0 there. */
@@ -164,7 +191,8 @@ static void run_received(u8 mode) {
     printf("waiting %d, trusted %d, ", received.state.waiting, received.state.trusted);
     printf("octets %s, ", wrong == 0 ? "those on the lane" : "OTHERS");
     printf("invalid %d of %lu on the lane, ", received.state.invalid, invalid);
-    printf("own %d of %u on the lane\n", received.state.own, own_carried(mode, 2));
+    printf("own %d of %u on the lane, ", received.state.own, own_carried(mode, 2));
+    printf("sound %u, repaired %u, failed %u\n", received.state.sound, received.state.repaired, received.state.failed);
     received = zaytulobe_receive(mode, zaytulobe_fresh_receiver(), lane, 1, out.octets, 0, out.statuses, 0, out.commands, 0,
         out.places, 0, out.patterns, 0, out.invalid, 0);
     printf("received, %s, of 1 lane octet: refusal %d, count %lu\n", name_of(mode), received.refusal, received.count);
@@ -260,6 +288,7 @@ int main(void) {
     run_sent(CRC3);
     run_sent(COMMAND);
     run_receiver();
+    run_receiver_counts();
     run_flags_and_octets();
     run_received(CRC12);
     run_received(CRC12_80);

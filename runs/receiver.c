@@ -1,12 +1,15 @@
 /* The receiver at its edges, and the longest run: document 01, "What the receiver releases", "Numbers of refusal" and the
-   last lines of "The dozen to prove"; of invalid headers document 02, request 1, of fill bits request 2, and of modes 4 and 5 request
-   5, with Tables 43, 44 and 47 of the standard. A line says what was tried and what came out (place and pattern where not both are 0);
-   receiver.txt has the lines expected. */
+   last lines of "The dozen to prove"; of invalid headers document 02, request 1, of fill bits request 2, of modes 4 and 5 request
+   5, with Tables 43, 44 and 47 of the standard, and of counts request 7. A line says what was tried and what came out (place and
+   pattern where not both are 0; counts in the order sound, repaired, failed); receiver.txt has the lines expected. */
 #include "lane.h"
 
 int snprintf(char *text, size room, const char *format, ...);
 
 static struct releases out, parts;
+
+/* Where a count stops. */
+#define GREATEST 4294967295
 
 /* Multiblock 2 of a lane, from a fresh receiver at the lane's start, with some positions of its codeword flipped. */
 static void try_flips(u8 mode, const char *label, size first, size count, size step) {
@@ -77,7 +80,11 @@ static void run_bursts_command(u8 mode) {
 static int same_state(struct zaytulobe_receiver one, struct zaytulobe_receiver other) {
     return one.history == other.history && one.command == other.command && one.waiting == other.waiting
         && one.trusted == other.trusted && memcmp(one.octets, other.octets, USER_OCTETS) == 0 && one.invalid == other.invalid
-        && one.own == other.own;
+        && one.own == other.own && one.sound == other.sound && one.repaired == other.repaired && one.failed == other.failed;
+}
+
+static void print_counts(struct zaytulobe_receiver state) {
+    printf("counts %u %u %u", state.sound, state.repaired, state.failed);
 }
 
 /* A call with all that a caller chooses: the mode, the state, where the lane begins, and each length. */
@@ -277,6 +284,43 @@ static void run_empty_states(void) {
     try_call("waiting given as 2", call_of(CRC12, flag, 1));
 }
 
+/* A state of counts alone, with one waiting or nothing. */
+static void try_counts(u8 mode, u8 waiting, u32 sound, u32 repaired, u32 failed, size multiblocks) {
+    char label[96];
+    struct zaytulobe_receiver state = {.waiting = waiting, .sound = sound, .repaired = repaired, .failed = failed};
+    snprintf(label, sizeof label, "%s, %s, counts %u %u %u%s", name_of(mode), waiting ? "one waiting" : "nothing waiting", sound,
+        repaired, failed, multiblocks ? "" : ", no lane octets");
+    try_call(label, call_of(mode, state, multiblocks));
+}
+
+/* With nothing waiting each count must be 0, and with one waiting it may be any. */
+static void run_count_states(void) {
+    for (u8 mode = 0; mode < MODES; mode++) {
+        try_counts(mode, 0, 1, 0, 0, 1);
+        try_counts(mode, 0, 0, 1, 0, 1);
+        try_counts(mode, 0, 0, 0, 1, 1);
+        try_counts(mode, 1, GREATEST, GREATEST, GREATEST, 1);
+        try_counts(mode, 1, GREATEST, GREATEST, GREATEST, 0);
+    }
+    try_counts(CRC12, 0, GREATEST, 0, 0, 0);
+    try_counts(CRC12, 0, 0, GREATEST, 0, 0);
+    try_counts(CRC12, 0, 0, 0, GREATEST, 0);
+}
+
+/* By whatever a call is refused, the counts given come back. */
+static void run_refused_counts(void) {
+    struct zaytulobe_receiver counts = {.waiting = 1, .sound = 7, .repaired = 8, .failed = GREATEST}, broken = counts;
+    struct call call = call_of(6, counts, 1);
+    try_call("counts 7 8 4294967295, mode 6", call);
+    broken.command = 1;
+    try_call("counts 7 8 4294967295, FEC, command 1", call_of(FEC, broken, 1));
+    call = call_of(FEC, counts, 1), call.lane -= 1;
+    try_call("counts 7 8 4294967295, FEC, 263 lane octets", call);
+    try_call("counts 7 8 4294967295, FEC, 241 multiblocks", call_of(FEC, counts, 241));
+    call = call_of(FEC, counts, 1), call.statuses = 0;
+    try_call("counts 7 8 4294967295, FEC, 1 multiblock, no room for statuses", call);
+}
+
 /* Of the octets of one multiblock, and of as many as a call takes, one less and one more. */
 static void run_lengths(u8 mode) {
     size one = lane_octets(mode), most = one * most_multiblocks(mode);
@@ -398,6 +442,91 @@ static void run_cuts(u8 mode, size multiblocks) {
         printf("cut after %lu: released %lu, then %lu; %s\n", cut, head.count, tail.count,
             same ? "the same releases and end state" : "OTHER RELEASES OR END STATE");
     }
+}
+
+/* One waits that is released with this status when the next comes: one without flips, with one, or with two that no burst of nine
+   explains; from 4 on nothing came before it. */
+static struct zaytulobe_receiver waiting_for(u8 status) {
+    size waits = status < ZAYTULOBE_UNTRUSTED ? 1 : 0;
+    make_lane(FEC, 2, 3);
+    for (size k = 0; k < status % ZAYTULOBE_UNTRUSTED; k++)
+        flip_position(FEC, waits, 9 * k);
+    return receive(FEC, zaytulobe_fresh_receiver(), 0, waits + 1, &out, 0).state;
+}
+
+static void try_release(u8 status, u32 sound, u32 repaired, u32 failed) {
+    struct zaytulobe_receiver state = waiting_for(status);
+    state.sound = sound, state.repaired = repaired, state.failed = failed;
+    printf("FEC, one waiting, ");
+    print_counts(state);
+    state = receive(FEC, state, status < ZAYTULOBE_UNTRUSTED ? 2 : 1, 1, &out, 0).state;
+    printf(": released with status %d, ", out.statuses[0]);
+    print_counts(state);
+    printf("\n");
+}
+
+/* Each kind of release adds 1 to its own count, whatever the other two are, and no more than up to the greatest number. */
+static void run_releases(void) {
+    static const u8 statuses[6] = {0, 1, 2, 4, 5, 6};
+    for (int k = 0; k < 6; k++) {
+        try_release(statuses[k], 0, 0, 0);
+        try_release(statuses[k], 100, 200, 300);
+        try_release(statuses[k], GREATEST - 1, GREATEST - 1, GREATEST - 1);
+        try_release(statuses[k], GREATEST, GREATEST, GREATEST);
+        try_release(statuses[k], GREATEST, 200, 300);
+        try_release(statuses[k], 100, GREATEST, 300);
+        try_release(statuses[k], 100, 200, GREATEST);
+    }
+}
+
+/* One waits, and as many more come as a call takes, so that as many sound ones are released: from the count that leads just below
+   the greatest number, from the one that leads there, and from one more. */
+static void run_stop(u8 mode) {
+    size most = most_multiblocks(mode);
+    make_lane(mode, 2, most + 1);
+    struct zaytulobe_receiver state = receive(mode, zaytulobe_fresh_receiver(), 0, 1, &out, 0).state;
+    for (u32 more = 0; more < 3; more++) {
+        state.sound = (u32)(GREATEST - 1 - most) + more;
+        printf("%s, one waiting, ", name_of(mode));
+        print_counts(state);
+        struct zaytulobe_received received = receive(mode, state, 1, most, &out, 0);
+        printf(", %lu clean multiblocks: released %lu, ", most, received.count);
+        print_counts(received.state);
+        printf("\n");
+    }
+}
+
+/* The counts after each call, and after one call for all. */
+static void run_totals(u8 mode, size multiblocks) {
+    make_damaged(mode, multiblocks);
+    struct zaytulobe_receiver state = zaytulobe_fresh_receiver();
+    printf("%s, %lu damaged multiblocks, one a call: ", name_of(mode), multiblocks);
+    for (size k = 0; k < multiblocks; k++) {
+        state = receive(mode, state, k, 1, &out, 0).state;
+        print_counts(state);
+        printf("; ");
+    }
+    printf("all in one call: ");
+    print_counts(receive(mode, zaytulobe_fresh_receiver(), 0, multiblocks, &out, 0).state);
+    printf("\n");
+}
+
+/* Two states that differ only in counts: the same is released, and the states after it differ only in counts. */
+static void run_unlike_counts(u8 mode, size multiblocks) {
+    make_damaged(mode, multiblocks);
+    memset(&out, UNTOUCHED, sizeof out);
+    memset(&parts, UNTOUCHED, sizeof parts);
+    struct zaytulobe_receiver state = receive(mode, zaytulobe_fresh_receiver(), 0, 1, &out, 0).state, unlike = state;
+    unlike.sound = GREATEST, unlike.repaired = 5, unlike.failed = 1000;
+    struct zaytulobe_received one = receive(mode, state, 1, multiblocks - 1, &out, 0);
+    struct zaytulobe_received other = receive(mode, unlike, 1, multiblocks - 1, &parts, 0);
+    printf("%s, counts 0 0 0 and 4294967295 5 1000, %lu released and %lu: ", name_of(mode), one.count, other.count);
+    printf(memcmp(&out, &parts, sizeof out) == 0 ? "the same releases, " : "OTHER RELEASES, ");
+    print_counts(one.state);
+    printf(" and ");
+    print_counts(other.state);
+    other.state.sound = one.state.sound, other.state.repaired = one.state.repaired, other.state.failed = one.state.failed;
+    printf(same_state(one.state, other.state) ? ", all else of the states the same\n" : ", OTHER STATES\n");
 }
 
 /* Every header of multiblock 1 is 00, and of multiblock 2 11; of multiblock 4 the first is 00 and the last 11; of multiblock 5
@@ -584,6 +713,8 @@ int main(void) {
     run_own_states();
     run_invalid_states();
     run_empty_states();
+    run_count_states();
+    run_refused_counts();
     for (u8 mode = 0; mode < MODES; mode++)
         run_lengths(mode);
     run_room();
@@ -591,6 +722,13 @@ int main(void) {
     run_two_at_once();
     for (u8 mode = 0; mode < MODES; mode++)
         run_cuts(mode, 8);
+    run_releases();
+    for (u8 mode = 0; mode < MODES; mode++)
+        run_stop(mode);
+    for (u8 mode = 0; mode < MODES; mode++)
+        run_totals(mode, 8);
+    for (u8 mode = 0; mode < MODES; mode++)
+        run_unlike_counts(mode, 8);
     for (u8 mode = 0; mode < MODES; mode++)
         run_invalid(mode, 6);
     for (u8 mode = 0; mode < MODES; mode++) {
