@@ -6,9 +6,11 @@ use Rattle.bits.specs.Choice.{pick}
 
 pub pick_true : {A : Type 0} (t : Bool) (a b : A) → T t → pick t a b ≡ a
 pick_true true a b h = refl
+pick_true {A = A} false a b h = elim h [ ]
 
 pub pick-false : {A : Type 0} (t : Bool) (a b : A) → T (not t) → pick t a b ≡ b
 pick-false false a b h = refl
+pick-false {A = A} true a b h = elim h [ ]
 
 -- what holds of each of two holds of the one that is taken
 pub pick-both : {A : Type 0} (P : A → Type 0) (t : Bool) (a b : A) → (t ≡ true → P a) → (t ≡ false → P b) → P (pick t a b)

@@ -1,17 +1,13 @@
 -- Lists written one after the other over a buffer: each is laid where the one before ended. Document 01, "Capture and listing".
 -- Assumes nothing.
-use mathlib.Core.Path.{◌≡◌, refl, sym, ap, ap₂, ◌∙◌}
-use mathlib.Core.List.{List, [], ◌∷◌, ◌++◌, append_assoc, append-nil}
-use mathlib.Core.Bool.{Bool, true, false}
-use Prim.Native.Nat.{ℕ, suc, ◌+◌, ◌-◌, ◌≤◌, ◌<◌}
-use native.Mathlib.Nat.{add-zero, zero-add}
+use mathlib.Core.Path.{◌≡◌, sym, ap, ap₂, ◌∙◌}
+use mathlib.Core.List.{List, [], ◌++◌, append_assoc, append-nil}
+use Prim.Native.Nat.{ℕ, ◌+◌, ◌≤◌}
+use native.Mathlib.Nat.{add-zero}
 use native.Mathlib.Omega.{arith}
-use borrow.Author.Tests.{leb-true}
-use lib.Dec.{leb}
-use lib.ListN.{length, get_or, take, drop, take-append-drop, length-append, length-drop, get_or-append}
+use lib.ListN.{length, take, drop, take-append-drop, length-append, length-drop}
 use lib.Seq.{sets, sets-eq, take_at, drop_at, drop-drop, length-take-le}
-use Rattle.bits.specs.Choice.{pick}
-use Rattle.bits.specs.Order.{laid, laid_at}
+use Rattle.bits.specs.Order.{laid_at}
 use Rattle.bits.proofs.Laid.{fits}
 
 -- octets stored one by one

@@ -1,4 +1,6 @@
 // Octets read and written as bits, most significant bit first: document 01, "From octets to lane bits"; and numbers held to a bound.
+#![tactic(auto)]
+
 ghost use Rattle.std.specs.Prelude.{◌≡◌, ◌+◌, ◌*◌, ◌≤◌, ◌<◌, length, get_or};
 ghost use Rattle.bits.specs.Bounds.{all_below};
 ghost use Rattle.bits.specs.Order.{bit_at, number, digit, octets_of, laid_at};
