@@ -1,5 +1,7 @@
 // Parity: remainders, weights and bursts. Document 01, "Parity"; request 5; clauses 7.4.2, 7.4.3 and 7.5.2. Each code's type has its numbers: parity
 // bits of a group, the polynomial's lower part, positions of a codeword, bits of a burst, groups of a multiblock and blocks of a group.
+#![tactic(auto)]
+
 ghost use Rattle.std.specs.Prelude.{◌≡◌};
 ghost use Rattle.bits.specs.Order.{bit_at, octets_in, word_bit};
 ghost use Rattle.parity.specs.Codeword.{crc12, crc3, fec, parity_of, multiblock_parity};
@@ -11,13 +13,13 @@ mod search;
 mod word;
 
 // A burst in an FEC codeword: its first position, and its bits from there on, lowest first.
-#[derive(Drop)]
+#[derive(Clone, Copy)]
 pub enum Burst {
     At(u16, u16),
     Nothing,
 }
 
-#[derive(Drop)]
+#[derive(Clone, Copy)]
 pub struct Crc12;
 
 impl Crc12 {
@@ -50,7 +52,7 @@ impl Crc12 {
     }
 }
 
-#[derive(Drop)]
+#[derive(Clone, Copy)]
 pub struct Crc3;
 
 impl Crc3 {
@@ -89,7 +91,7 @@ impl Crc3 {
     }
 }
 
-#[derive(Drop)]
+#[derive(Clone, Copy)]
 pub struct Fec;
 
 impl Fec {
@@ -136,34 +138,10 @@ impl Fec {
 
 // The constants are the numbers of the definitions.
 fn tied()
-    ensures* fact { do
-      w ← (⟦Crc12::WIDTH⟧).entry
-      g ← (⟦Crc12::LOWER⟧).entry
-      n ← (⟦Crc12::POSITIONS⟧).entry
-      b ← (⟦Crc12::LIMIT⟧).entry
-      ⌜ (crc12.width ≡ w) × (crc12.lower ≡ g) × (crc12.positions ≡ n) × (crc12.limit ≡ b) ⌝ }
-    ensures* fact_2 { do
-      m ← (⟦Crc12::GROUPS⟧).entry
-      k ← (⟦Crc12::BLOCKS⟧).entry
-      ⌜ (crc12.groups ≡ m) × (crc12.blocks ≡ k) ⌝ }
-    ensures* fact_3 { do
-      w ← (⟦Fec::WIDTH⟧).entry
-      g ← (⟦Fec::LOWER⟧).entry
-      n ← (⟦Fec::POSITIONS⟧).entry
-      b ← (⟦Fec::LIMIT⟧).entry
-      ⌜ (fec.width ≡ w) × (fec.lower ≡ g) × (fec.positions ≡ n) × (fec.limit ≡ b) ⌝ }
-    ensures* fact_4 { do
-      m ← (⟦Fec::GROUPS⟧).entry
-      k ← (⟦Fec::BLOCKS⟧).entry
-      ⌜ (fec.groups ≡ m) × (fec.blocks ≡ k) ⌝ }
-    ensures* fact_5 { do
-      w ← (⟦Crc3::WIDTH⟧).entry
-      g ← (⟦Crc3::LOWER⟧).entry
-      n ← (⟦Crc3::POSITIONS⟧).entry
-      b ← (⟦Crc3::LIMIT⟧).entry
-      ⌜ (crc3.width ≡ w) × (crc3.lower ≡ g) × (crc3.positions ≡ n) × (crc3.limit ≡ b) ⌝ }
-    ensures* fact_6 { do
-      m ← (⟦Crc3::GROUPS⟧).entry
-      k ← (⟦Crc3::BLOCKS⟧).entry
-      ⌜ (crc3.groups ≡ m) × (crc3.blocks ≡ k) ⌝ }
+    ensures crc12_polynomial { (crc12.width ≡ Crc12.WIDTH) × (crc12.lower ≡ Crc12.LOWER) × (crc12.positions ≡ Crc12.POSITIONS) × (crc12.limit ≡ Crc12.LIMIT) }
+    ensures crc12_groups { (crc12.groups ≡ Crc12.GROUPS) × (crc12.blocks ≡ Crc12.BLOCKS) }
+    ensures fec_polynomial { (fec.width ≡ Fec.WIDTH) × (fec.lower ≡ Fec.LOWER) × (fec.positions ≡ Fec.POSITIONS) × (fec.limit ≡ Fec.LIMIT) }
+    ensures fec_groups { (fec.groups ≡ Fec.GROUPS) × (fec.blocks ≡ Fec.BLOCKS) }
+    ensures crc3_polynomial { (crc3.width ≡ Crc3.WIDTH) × (crc3.lower ≡ Crc3.LOWER) × (crc3.positions ≡ Crc3.POSITIONS) × (crc3.limit ≡ Crc3.LIMIT) }
+    ensures crc3_groups { (crc3.groups ≡ Crc3.GROUPS) × (crc3.blocks ≡ Crc3.BLOCKS) }
 {}

@@ -1,4 +1,6 @@
 // CRC-12 a block at once, from eight rows of 256 remainders, one row per octet of the block: request 3; clause 7.4.2.
+#![tactic(auto)]
+
 ghost use Rattle.std.specs.Prelude.{◌≡◌, ◌+◌, ◌-◌, ◌*◌, ◌/◌, ◌%◌, ◌^◌, ◌≤◌, ◌<◌, length};
 ghost use Rattle.std.specs.Int.Bits.{bit_xor};
 ghost use Rattle.bits.specs.Order.{bit_at, bits_of, list_from, number, digits, octets_in};

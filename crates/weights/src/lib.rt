@@ -1,4 +1,6 @@
 // The weights of the 2,074 positions of an FEC codeword: document 01, "Parity". Entry p is x^(2073-p) modulo the FEC polynomial.
+#![tactic(auto)]
+
 ghost use Rattle.std.specs.Prelude.{◌≡◌, ◌-◌};
 ghost use Rattle.bits.specs.Order.{list_from};
 ghost use Rattle.polynomial.specs.Polynomial.{power};

@@ -1,0 +1,11 @@
+use Prim.Native.Nat.{◌^◌, ◌≤◌, ◌<◌}
+use mathlib.Core.Path.{◌≡◌}
+use Rattle.bits.specs.Order.{digits}
+use Rattle.polynomial.specs.Remainder.{remainder_from}
+use Rattle.parity.proofs.bitwise.next_octet.Given as goal
+
+abbrev pub invariant-loop-k : goal.invariant-loop-k
+invariant-loop-k l = (l.k ≤ 8) × (l.s < 2 ^ l.w) × (remainder_from l.w l.g l.s (digits l.k l.octet) ≡ remainder_from l.w l.g l.r (digits 8 l.octet))
+
+abbrev pub decreases-loop-k : goal.decreases-loop-k
+decreases-loop-k l = l.k
