@@ -1,4 +1,6 @@
 // Fill bits, which stand between the data octets of blocks with gaps: clause 7.2.5, Table 38; request 2.
+#![tactic(auto)]
+
 ghost use Rattle.std.specs.Prelude.{◌≡◌, ◌+◌, ◌/◌, ◌%◌, ◌<◌, get_or};
 ghost use Rattle.fill.specs.Register.{register_after, shifts};
 ghost use Rattle.fill.specs.Table38.{never, at, filled, table38, pairs_of, packed};

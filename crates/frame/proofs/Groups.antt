@@ -1,12 +1,12 @@
 -- A multiblock's parity in its two parts, and where the parity of each of its groups stands: behind the group's blocks, in order, in its own
 -- headers or in the next multiblock's. Tables 41, 43 and 45; request 5. Assumes nothing.
 use mathlib.Core.Path.{◌≡◌, refl, sym, ap, ap₂, ◌∙◌, subst}
-use mathlib.Core.Bool.{Bool, true, false, ◌&&◌}
+use mathlib.Core.Bool.{Bool, ◌&&◌}
 use Prim.Native.Nat.{ℕ, zero, suc, ◌+◌, ◌-◌, ◌*◌, ◌/◌, ◌%◌, ◌^◌, ◌≤◌, ◌<◌}
-use native.Mathlib.Nat.{add-zero, zero-mul, add-suc, zero-add, mod-mod, mod-one, mod-eq_of_lt, mod-lt, mul-suc, le_refl}
+use native.Mathlib.Nat.{add-zero, zero-mul, add-suc, zero-add, mod-mod, mod-one, mod-eq_of_lt, mod-lt, le_refl}
 use native.Mathlib.Omega.{arith}
 use borrow.Author.Tests.{eq-eqb, ne_eqb}
-use lib.Dec.{T, ltb, leb, eqb, ltb→lt, leb→le, lit≤}
+use lib.Dec.{T, ltb, leb, eqb, ltb→lt, leb→le}
 use lib.Pow.{pow_pos, mod-pow-add}
 use Rattle.bits.specs.Choice.{pick}
 use Rattle.bits.specs.Order.{number}
@@ -17,7 +17,7 @@ use Rattle.parity.proofs.Groups.{joined-ext, joined_number, joined-none}
 use Rattle.frame.specs.declared.modes.Sync.{Sync}
 use Rattle.frame.specs.declared.modes.Sync.TheVariants.{Crc12, Fec, Crc3, Command}
 use Rattle.frame.specs.declared.sync.Parts.{Parts}
-use Rattle.frame.specs.Modes.{Whose, before, own, Field, parity, layout, code, parity_width}
+use Rattle.frame.specs.Modes.{before, own, parity, layout, code, parity_width}
 use Rattle.frame.specs.Headers.{value, header_read, carries}
 use Rattle.frame.specs.Lane.{block_width, header_place, first_bit, second_bit, value_at, header_at, sync_bit}
 use Rattle.frame.specs.SyncWord.{whole, split, position, key, read_by, read_parity}

@@ -10,7 +10,7 @@ use borrow.Author.Tests.{leb-true, le-leb}
 use lib.Dec.{leb, lit≤, lit<}
 use lib.ListN.{get_or}
 use Rattle.bits.proofs.Choice.{both_true, parts-true}
-use Rattle.parity.specs.Codeword.{Code, data_bits}
+use Rattle.parity.specs.Codeword.{data_bits}
 use Rattle.parity.proofs.Bursts.{Proper, crc12-proper, fec-proper, crc3-proper}
 use Rattle.frame.specs.declared.modes.Sync.{Sync}
 use Rattle.frame.specs.declared.modes.Sync.TheVariants.{Crc12, Fec, Crc3, Command}

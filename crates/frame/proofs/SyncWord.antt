@@ -1,10 +1,10 @@
 -- Laws of sync words, once over every layout in which each bit stands once, which a computed test shows of every kind: what is written is read
 -- back, and what is read depends on the field's own positions only. Clauses 7.3.3 to 7.3.7. Assumes nothing.
 use mathlib.Core.Path.{◌≡◌, refl, sym, ap, ap₂, ◌∙◌, subst}
-use mathlib.Core.Bool.{Bool, true, false, ◌&&◌}
+use mathlib.Core.Bool.{Bool, true, false}
 use mathlib.Core.List.{List, [], ◌∷◌}
-use Prim.Native.Nat.{ℕ, zero, suc, ◌+◌, ◌-◌, ◌*◌, ◌/◌, ◌%◌, ◌^◌, ◌≤◌, ◌<◌}
-use native.Mathlib.Nat.{mod-lt, zero-lt-suc, pow-suc, le_of_suc-le-suc, not-suc-le-zero, add-zero, zero-add, add-suc, le_refl}
+use Prim.Native.Nat.{ℕ, suc, ◌+◌, ◌-◌, ◌*◌, ◌/◌, ◌%◌, ◌^◌, ◌≤◌, ◌<◌}
+use native.Mathlib.Nat.{mod-lt, zero-lt-suc, pow-suc, le_of_suc-le-suc, not-suc-le-zero, add-zero, zero-add}
 use native.Mathlib.Numerals.{add-one}
 use native.Mathlib.Omega.{arith}
 use borrow.Author.Tests.{eqb-true, le-leb, lt-leb}
@@ -12,7 +12,7 @@ use lib.Dec.{T, ltb, leb, eqb, ltb→lt, eqb→eq}
 use lib.ListN.{length, get_or}
 use Rattle.bits.specs.Choice.{pick, bit_of}
 use Rattle.bits.specs.Order.{number, digit}
-use Rattle.bits.proofs.Numbers.{digit_at, number-none, number_lt, number-ext, number-whole, digit-number, low_digit}
+use Rattle.bits.proofs.Numbers.{number-none, number_lt, number-ext, number-whole, digit-number}
 use Rattle.bits.proofs.Tests.{every, every-at}
 use Rattle.frame.specs.declared.modes.Sync.{Sync}
 use Rattle.frame.specs.declared.modes.Sync.TheVariants.{Crc12, Fec, Crc3, Command}

@@ -6,7 +6,7 @@ ghost use Rattle.bits.specs.Order.{number};
 ghost use Rattle.frame.specs.Headers.{header_read, carries, invalid, header_in, invalid_among};
 
 // What a header reads as: an invalid one holds the pair seen, its first bit times 2 plus its second.
-#[derive(Drop)]
+#[derive(Clone, Copy)]
 pub enum Header {
     One,
     Zero,

@@ -5,7 +5,7 @@ ghost use Rattle.frame.specs.Lane.{fill_bound};
 ghost use Rattle.frame.specs.Modes.{known, row, numbers_of, extent_fits, most_of_all, longest_lane};
 
 // What a sync word carries: the parity of CRC-12 and a command, the parity of FEC, the parities of CRC-3 and a command, or a command alone.
-#[derive(Drop)]
+#[derive(Clone, Copy)]
 pub enum Sync {
     Crc12,
     Fec,
@@ -13,7 +13,7 @@ pub enum Sync {
     Command,
 }
 
-#[derive(Drop)]
+#[derive(Clone, Copy)]
 pub struct Row {
     pub sync: Sync,
     pub gap: u8,
@@ -22,7 +22,7 @@ pub struct Row {
 
 // What follows from a row: parities that go with the next sync word and with their own, commands, commands with their flag and fill registers are
 // below these; words of a command; octets of a multiblock on the lane, and bits of a block; whether a burst is flipped back.
-#[derive(Drop)]
+#[derive(Clone, Copy)]
 pub struct Numbers {
     pub parities: u32,
     pub owns: u16,

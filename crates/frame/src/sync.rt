@@ -12,7 +12,7 @@ use crate::headers;
 use crate::modes::Sync;
 
 // What a sync word carries of parities: of the multiblock before it, and of its own (request 5).
-#[derive(Drop)]
+#[derive(Clone, Copy)]
 pub struct Parts {
     pub before: u32,
     pub own: u16,

@@ -1,4 +1,6 @@
 // Scrambling and descrambling, 64 bits at once: clause 7.2.4.
+#![tactic(auto)]
+
 ghost use Rattle.std.specs.Prelude.{◌≡◌, ◌%◌, ◌^◌, ◌≤◌, length};
 ghost use Rattle.bits.specs.Order.{bit_at, digit, number, octets_of, word_bit, words_of, laid, laid_at};
 ghost use Rattle.scrambler.specs.Scrambling.{sent, plain, descrambled, history_after};
@@ -26,7 +28,7 @@ pub fn history_after(block: u64) -> u64
 }
 
 // The 32 blocks sent for a multiblock, and the history after them.
-#[derive(Drop)]
+#[derive(Clone, Copy)]
 pub struct Scrambled {
     pub blocks: [u64; 32],
     pub history: u64,

@@ -1,0 +1,7 @@
+-- `frame::sync::fec_word` meets its contract: fields moved by shifts and masks are those of Table 45.
+use native.Mathlib.Omega.{arith}
+use Rattle.frame.proofs.Fields.{fec-word}
+use Rattle.frame.proofs.sync.fec_word.Goals as goal
+
+pub returns : goal.returns
+returns c = let a = c.args in fec-word a.parts a.command (omega arith) (omega arith) (omega arith) a.mark
