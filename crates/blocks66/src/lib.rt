@@ -1,5 +1,7 @@
 // Multiblocks of blocks without gaps, written to a lane and read from it: clauses 7.1.2, 7.1.3 and 7.2.2. A multiblock is 33 words of the lane, and
 // block i begins 2 * i bits into word i: shifts and masks lay and gather its header and its 64 data bits across octet edges.
+#![tactic(auto)]
+
 ghost use Rattle.std.specs.Prelude.{◌≡◌, ◌+◌, ◌-◌, ◌*◌, ◌/◌, ◌%◌, ◌^◌, ◌<◌};
 ghost use Rattle.bits.specs.Order.{bit_at, digit, number, octets_of, word_bit, laid_at};
 ghost use Rattle.frame.specs.Headers.{header_of};

@@ -1,5 +1,7 @@
 // Multiblocks of blocks with gaps of two bits, written to a lane and read from it: clauses 7.1.2, 7.1.3, 7.2.2 and 7.2.5; request 2. A block is ten
 // whole octets: eight times a pair of bits and a data octet. The first pair is the header, the others are fill.
+#![tactic(auto)]
+
 ghost use Rattle.std.specs.Prelude.{◌≡◌, ◌+◌, ◌*◌, ◌<◌, leb, length};
 ghost use Rattle.bits.specs.Choice.{pick};
 ghost use Rattle.bits.specs.Order.{bit_at, digit, number, octets_of, word_bit, laid_at};

@@ -1,5 +1,7 @@
 // Multiblocks written to a lane and read from it, by the gap between the data octets of their blocks: clauses 7.1.2, 7.1.3, 7.2.2 and 7.2.5;
 // request 2.
+#![tactic(auto)]
+
 ghost use Rattle.std.specs.Prelude.{◌≡◌, leb, length};
 ghost use Rattle.bits.specs.Choice.{pick};
 ghost use Rattle.bits.specs.Order.{number, octets_of, word_bit, laid_at};
