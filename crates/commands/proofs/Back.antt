@@ -17,12 +17,11 @@ use Rattle.bits.proofs.Lists.{length-list, get_or-list}
 use Rattle.commands.specs.declared.words.Word.{Word}
 use Rattle.commands.specs.declared.words.Word.TheVariants.{Header, Payload, Padding, Spoilt, End}
 use Rattle.commands.specs.declared.events.Event.TheVariants as event
-use Rattle.commands.specs.declared.events.Message.{Message}
 use Rattle.commands.specs.Words.{together, with_parity, word_in, spoilt, said, word_at}
 use Rattle.commands.specs.Table51.{function_of}
 use Rattle.commands.specs.Writing.{message_word, commands_for, command_of, written}
 use Rattle.commands.specs.Promises.{opens, as_read}
-use Rattle.commands.specs.Reading.{meant, is_spoilt, five_bits, in_arow, no_message, found, complete, past_padding, past_cut, payload_from, message_at, header_at, event_at, begin_from, event_from}
+use Rattle.commands.specs.Reading.{meant, is_spoilt, five_bits, in_a_row, no_message, found, complete, past_padding, past_cut, payload_from, message_at, header_at, event_at, begin_from, event_from}
 use Rattle.commands.proofs.Commands.{is-payload, is-idle, word_small, together-less}
 use Rattle.commands.proofs.Spoken.{at-word}
 use Rattle.commands.proofs.InARow.{row-off, row-exact}
@@ -147,7 +146,7 @@ module _ (n : ℕ) (words : ℕ → Word) (b code : ℕ) (payload : List ℕ) (p
       let here : words behind ≡ Padding = ap words {x = behind} {y = behind + 0} (omega arith) ∙ filled 0 (omega (arith, e)) in
       (ap (meant true false) here, ap is_spoilt here)
 
-  counted : in_arow (meant true false) words (b + 1) (function_of code).most ≡ length payload
+  counted : in_a_row (meant true false) words (b + 1) (function_of code).most ≡ length payload
   counted = row-exact (meant true false) words (b + 1) (length payload) (function_of code).most (λ k h. ap (meant true false) (taken k h)) most (λ _. (by-padding padding refl).0)
 
   passed : past_padding n words behind ≡ behind + padding
@@ -177,7 +176,7 @@ module _ (n : ℕ) (words : ℕ → Word) (b code : ℕ) (payload : List ℕ) (p
   pub message-back : header_at n words b code ≡ found event.Message (as_read (record { code = code; payload = payload })) b (behind + padding)
   unfolding header_at message_at payload_from
   message-back =
-      ap (λ (t : Bool). pick t (message_at n words b code (in_arow (meant true false) words (b + 1) (function_of code).most)) (found (event.Undefined code) no_message b (past_padding n words (b + 1)))) line
+      ap (λ (t : Bool). pick t (message_at n words b code (in_a_row (meant true false) words (b + 1) (function_of code).most)) (found (event.Undefined code) no_message b (past_padding n words (b + 1)))) line
       ∙ ap (message_at n words b code) counted
       ∙ ap (λ (t : Bool). pick t (found event.Message (record { code = code; count = length payload; words = payload_from n words (b + 1) (length payload) }) b (past_padding n words behind)) (found (event.Cut (1 + length payload)) no_message b (past_cut n words behind (is_spoilt (words behind))))) done-with
       ∙ ap₂ (λ (l : List ℕ) (x : ℕ). found event.Message (record { code = code; count = length payload; words = laid l (replicate 7 0) }) b x) same-payload passed
@@ -187,5 +186,5 @@ module _ (n : ℕ) (words : ℕ → Word) (b code : ℕ) (payload : List ℕ) (p
   unfolding event_from begin_from
   read_back all =
       let none = row-off (meant true true) words b (all - b) (ap (meant true true) header) in
-      let here : b + in_arow (meant true true) words b (all - b) ≡ b = omega (arith, none) in
+      let here : b + in_a_row (meant true true) words b (all - b) ≡ b = omega (arith, none) in
       ap (λ (i : ℕ). event_at n words i (words i)) here ∙ ap (event_at n words b) header ∙ message-back

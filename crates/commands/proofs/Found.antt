@@ -16,7 +16,7 @@ use Rattle.commands.specs.declared.events.Message.{Message}
 use Rattle.commands.specs.declared.events.Read.{Read}
 use Rattle.commands.specs.Words.{word_at}
 use Rattle.commands.specs.Table51.{function_of}
-use Rattle.commands.specs.Reading.{is_spoilt, meant, in_arow, no_message, found, complete, past_command, past_padding, past_cut, payload_from, message_at, header_at, event_at, begin_from, event_from, event_in}
+use Rattle.commands.specs.Reading.{is_spoilt, meant, in_a_row, no_message, found, complete, past_command, past_padding, past_cut, payload_from, message_at, header_at, event_at, begin_from, event_from, event_in}
 use Rattle.commands.proofs.Spoken.{at-end}
 use Rattle.commands.proofs.InARow.{row-none}
 use Rattle.commands.proofs.Table.{most-few}
@@ -36,10 +36,10 @@ from_past n commands from h b =
     let words = word_at n commands in
     let left : n * length commands - from ≡ 0 = omega arith in
     let here : begin_from n words (n * length commands) from ≡ from
-    = ap (λ (k : ℕ). from + in_arow (meant true true) words from k) left ∙ omega (arith, row-none (meant true true) words from) in
+    = ap (λ (k : ℕ). from + in_a_row (meant true true) words from k) left ∙ omega (arith, row-none (meant true true) words from) in
     sym (ap (λ (b : ℕ). event_at n words b (words b)) here ∙ ap (event_at n words from) (past_all n commands from h b))
 
-pub from-skipped : (n : ℕ) (commands : List ℕ) (from skipped : ℕ) → skipped ≡ in_arow (meant true true) (word_at n commands) from (n * length commands - from)
+pub from-skipped : (n : ℕ) (commands : List ℕ) (from skipped : ℕ) → skipped ≡ in_a_row (meant true true) (word_at n commands) from (n * length commands - from)
     → event_at n (word_at n commands) (from + skipped) (word_at n commands (from + skipped)) ≡ event_in n commands from
 unfolding event_in event_from begin_from
 from-skipped n commands from skipped e = ap (λ (k : ℕ). event_at n (word_at n commands) (from + k) (word_at n commands (from + k))) e
@@ -86,7 +86,7 @@ module _ (n : ℕ) (words : ℕ → Word) where
   -- a header whose line of Table 51 was looked up
   module _ (b code : ℕ) (f : Function) (line : f ≡ function_of code) where
     abbrev message : Function → Read
-    message f = message_at n words b code (in_arow (meant true false) words (b + 1) f.most)
+    message f = message_at n words b code (in_a_row (meant true false) words (b + 1) f.most)
 
     abbrev none : Read
     none = found (event.Undefined code) no_message b (past_padding n words (b + 1))
@@ -101,6 +101,6 @@ module _ (n : ℕ) (words : ℕ → Word) where
         ap₂ (λ (m : Message) (z : ℕ). found (event.Undefined code) m b z) y x
         ∙ sym (ap (λ (t : Bool). pick t (message f) none) e) ∙ by-line
 
-    pub header-message : f.defined ≡ true → (count : ℕ) → count ≡ in_arow (meant true false) words (b + 1) f.most
+    pub header-message : f.defined ≡ true → (count : ℕ) → count ≡ in_a_row (meant true false) words (b + 1) f.most
         → message_at n words b code count ≡ header_at n words b code
     header-message e count x = ap (message_at n words b code) x ∙ sym (ap (λ (t : Bool). pick t (message f) none) e) ∙ by-line

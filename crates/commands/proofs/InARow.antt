@@ -7,69 +7,69 @@ use native.Mathlib.Nat.{add-zero}
 use native.Mathlib.Omega.{arith}
 use Rattle.bits.specs.Choice.{pick}
 use Rattle.commands.specs.declared.words.Word.{Word}
-use Rattle.commands.specs.Reading.{in_arow}
+use Rattle.commands.specs.Reading.{in_a_row}
 
 module _ (is : Word → Bool) (words : ℕ → Word) where
-  pub row-none : (i : ℕ) → in_arow is words i 0 ≡ 0
-  unfolding in_arow
+  pub row-none : (i : ℕ) → in_a_row is words i 0 ≡ 0
+  unfolding in_a_row
   row-none i = refl
 
-  pub row_on : (i most : ℕ) → is (words i) ≡ true → in_arow is words i (suc most) ≡ suc (in_arow is words (suc i) most)
-  unfolding in_arow
-  row_on i most e = ap (λ (b : Bool). pick b (suc (in_arow is words (suc i) most)) 0) e
+  pub row_on : (i most : ℕ) → is (words i) ≡ true → in_a_row is words i (suc most) ≡ suc (in_a_row is words (suc i) most)
+  unfolding in_a_row
+  row_on i most e = ap (λ (b : Bool). pick b (suc (in_a_row is words (suc i) most)) 0) e
 
-  pub row-off : (i most : ℕ) → is (words i) ≡ false → in_arow is words i most ≡ 0
-  unfolding in_arow
+  pub row-off : (i most : ℕ) → is (words i) ≡ false → in_a_row is words i most ≡ 0
+  unfolding in_a_row
   row-off i zero e = refl
-  row-off i (suc most) e = ap (λ (b : Bool). pick b (suc (in_arow is words (suc i) most)) 0) e
+  row-off i (suc most) e = ap (λ (b : Bool). pick b (suc (in_a_row is words (suc i) most)) 0) e
 
   -- by the word that is looked at
-  by_word : (i most : ℕ) (b : Bool) → is (words i) ≡ b → in_arow is words (suc i) most ≤ most → in_arow is words i (suc most) ≤ suc most
+  by_word : (i most : ℕ) (b : Bool) → is (words i) ≡ b → in_a_row is words (suc i) most ≤ most → in_a_row is words i (suc most) ≤ suc most
   by_word i most true e h = omega (arith, row_on i most e, h)
   by_word i most false e h = omega (arith, row-off i (suc most) e)
 
-  pub row-le : (i most : ℕ) → in_arow is words i most ≤ most
+  pub row-le : (i most : ℕ) → in_a_row is words i most ≤ most
   row-le i zero = omega (arith, row-none i)
   row-le i (suc most) = by_word i most (is (words i)) refl (row-le (suc i) most)
 
   -- each of the words that are counted is meant
-  by-counted : (i most k : ℕ) (b : Bool) → is (words i) ≡ b → k < in_arow is words i (suc most)
-      → ((j : ℕ) → j < in_arow is words (suc i) most → is (words (suc i + j)) ≡ true) → is (words (i + k)) ≡ true
+  by-counted : (i most k : ℕ) (b : Bool) → is (words i) ≡ b → k < in_a_row is words i (suc most)
+      → ((j : ℕ) → j < in_a_row is words (suc i) most → is (words (suc i + j)) ≡ true) → is (words (i + k)) ≡ true
   by-counted i most zero true e h next = ap (λ (j : ℕ). is (words j)) (add-zero i) ∙ e
   by-counted i most (suc k) true e h next = ap (λ (j : ℕ). is (words j)) {x = i + suc k} {y = suc i + k} (omega arith) ∙ next k (omega (arith, row_on i most e))
   by-counted i most k false e h next = absurd (omega (arith, row-off i (suc most) e))
 
-  pub row-meant : (i most k : ℕ) → k < in_arow is words i most → is (words (i + k)) ≡ true
+  pub row-meant : (i most k : ℕ) → k < in_a_row is words i most → is (words (i + k)) ≡ true
   row-meant i zero k h = absurd (omega (arith, row-none i))
   row-meant i (suc most) k h = by-counted i most k (is (words i)) refl h (λ j l. row-meant (suc i) most j l)
 
-  pub row-start : (start most : ℕ) → in_arow is words start most ≡ 0 + in_arow is words (start + 0) (most - 0)
+  pub row-start : (start most : ℕ) → in_a_row is words start most ≡ 0 + in_a_row is words (start + 0) (most - 0)
   row-start start most =
       let here : start ≡ start + 0 = omega arith in
       let all : most ≡ most - 0 = omega arith in
-      let same = ap₂ (in_arow is words) here all in
+      let same = ap₂ (in_a_row is words) here all in
       omega (arith, same)
 
   -- where k words in a row were counted from word `start` on
   module _ (start most k : ℕ) where
     pub row-passed : k < most → is (words (start + k)) ≡ true
-        → k + in_arow is words (start + k) (most - k) ≡ k + 1 + in_arow is words (start + (k + 1)) (most - (k + 1))
+        → k + in_a_row is words (start + k) (most - k) ≡ k + 1 + in_a_row is words (start + (k + 1)) (most - (k + 1))
     row-passed h e =
         let left : most - k ≡ suc (most - (k + 1)) = omega arith in
         let next : suc (start + k) ≡ start + (k + 1) = omega arith in
-        omega (arith, ap (in_arow is words (start + k)) left ∙ row_on (start + k) (most - (k + 1)) e, ap (λ (i : ℕ). in_arow is words i (most - (k + 1))) next)
+        omega (arith, ap (in_a_row is words (start + k)) left ∙ row_on (start + k) (most - (k + 1)) e, ap (λ (i : ℕ). in_a_row is words i (most - (k + 1))) next)
 
-    pub row-stopped : is (words (start + k)) ≡ false → k + in_arow is words (start + k) (most - k) ≡ k
+    pub row-stopped : is (words (start + k)) ≡ false → k + in_a_row is words (start + k) (most - k) ≡ k
     row-stopped e = omega (arith, row-off (start + k) (most - k) e)
 
-    pub row-ended : most ≤ k → k + in_arow is words (start + k) (most - k) ≡ k
+    pub row-ended : most ≤ k → k + in_a_row is words (start + k) (most - k) ≡ k
     row-ended h =
         let left : most - k ≡ 0 = omega arith in
-        omega (arith, ap (in_arow is words (start + k)) left ∙ row-none (start + k))
+        omega (arith, ap (in_a_row is words (start + k)) left ∙ row-none (start + k))
 
   -- so many words in a row, where each of them is meant and the next is not
   pub row-exact : (i count most : ℕ) → ((k : ℕ) → k < count → is (words (i + k)) ≡ true) → count ≤ most
-      → (count < most → is (words (i + count)) ≡ false) → in_arow is words i most ≡ count
+      → (count < most → is (words (i + count)) ≡ false) → in_a_row is words i most ≡ count
   row-exact i zero zero each few stop = row-none i
   row-exact i zero (suc most) each few stop =
       row-off i (suc most) (ap (λ (k : ℕ). is (words k)) {x = i} {y = i + 0} (omega arith) ∙ stop (omega arith))

@@ -25,7 +25,7 @@ use Rattle.commands.specs.declared.events.Read.{Read}
 use Rattle.commands.specs.Words.{together, with_parity, word_in, spoilt, said, word_at}
 use Rattle.commands.specs.Table51.{most_words, function_of}
 use Rattle.commands.specs.Writing.{channel_words, message_word, commands_for, command_of, written}
-use Rattle.commands.specs.Reading.{meant, is_spoilt, five_bits, in_arow, no_message, found, complete, past_padding, past_cut, payload_from, message_at, header_at, event_at, begin_from, event_from, refusal_of, event_in, reading}
+use Rattle.commands.specs.Reading.{meant, is_spoilt, five_bits, in_a_row, no_message, found, complete, past_padding, past_cut, payload_from, message_at, header_at, event_at, begin_from, event_from, refusal_of, event_in, reading}
 use Rattle.commands.specs.Promises.{OneEncoding}
 use Rattle.commands.proofs.Commands.{is-header, is-payload, is-idle}
 use Rattle.commands.proofs.InARow.{row-meant}
@@ -44,7 +44,7 @@ is_message (event.Undefined code) = false
 record Whole (n : ℕ) (words : ℕ → Word) (r : Read) : Type 0 where
   header : words r.begin ≡ Header r.message.code
   most : ℕ
-  counted : r.message.count ≡ in_arow (meant true false) words (r.begin + 1) most
+  counted : r.message.count ≡ in_a_row (meant true false) words (r.begin + 1) most
   taken : r.message.words ≡ payload_from n words (r.begin + 1) r.message.count
   padded : r.next ≡ past_padding n words (r.begin + 1 + r.message.count)
 
@@ -56,7 +56,7 @@ module _ (n : ℕ) (words : ℕ → Word) where
   unfolding header_at message_at
   header-told b code e =
       let most = (function_of code).most in
-      let count = in_arow (meant true false) words (b + 1) most in
+      let count = in_a_row (meant true false) words (b + 1) most in
       let behind = b + 1 + count in
       pick-both Told (function_of code).defined (message_at n words b code count) (found (event.Undefined code) no_message b (past_padding n words (b + 1)))
       (λ _. pick-both Told (complete (function_of code) count (is_spoilt (words behind)))

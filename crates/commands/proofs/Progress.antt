@@ -24,7 +24,7 @@ use Rattle.commands.specs.declared.events.Message.{Message}
 use Rattle.commands.specs.declared.events.Read.{Read}
 use Rattle.commands.specs.Words.{word_in, spoilt, said, word_at}
 use Rattle.commands.specs.Table51.{function_of}
-use Rattle.commands.specs.Reading.{meant, is_spoilt, five_bits, in_arow, no_message, found, complete, past_command, past_padding, past_cut, payload_from, message_at, header_at, event_at, begin_from, event_from, event_in}
+use Rattle.commands.specs.Reading.{meant, is_spoilt, five_bits, in_a_row, no_message, found, complete, past_command, past_padding, past_cut, payload_from, message_at, header_at, event_at, begin_from, event_from, event_in}
 use Rattle.commands.proofs.Table.{most-few}
 use Rattle.commands.proofs.Spoken.{at-end, past-command-above}
 use Rattle.commands.proofs.InARow.{row-none, row_on, row-off, row-le}
@@ -112,29 +112,29 @@ module _ (n : ℕ) (commands : List ℕ) where
       counted-speaks i e = speaks i (λ x. true≢false (sym e ∙ ap is x ∙ not_end))
 
       by_word : (i most : ℕ) (b : Bool) → is (word_at n commands i) ≡ b → i ≤ all
-          → (suc i ≤ all → suc i + in_arow is (word_at n commands) (suc i) most ≤ all) → i + in_arow is (word_at n commands) i (suc most) ≤ all
+          → (suc i ≤ all → suc i + in_a_row is (word_at n commands) (suc i) most ≤ all) → i + in_a_row is (word_at n commands) i (suc most) ≤ all
       by_word i most true e h next = omega (arith, row_on is (word_at n commands) i most e, next (counted-speaks i e))
       by_word i most false e h next = omega (arith, row-off is (word_at n commands) i (suc most) e)
 
-      pub row_inside : (i most : ℕ) → i ≤ all → i + in_arow is (word_at n commands) i most ≤ all
+      pub row_inside : (i most : ℕ) → i ≤ all → i + in_a_row is (word_at n commands) i most ≤ all
       row_inside i zero h = omega (arith, row-none is (word_at n commands) i)
       row_inside i (suc most) h = by_word i most (is (word_at n commands i)) refl h (λ k. row_inside (suc i) most k)
 
     -- where fewer are counted than could be, the next is not meant
     module _ (is : Word → Bool) (words : ℕ → Word) where
-      by_next : (i most : ℕ) (b : Bool) → is (words i) ≡ b → in_arow is words i (suc most) < suc most
-          → (in_arow is words (suc i) most < most → is (words (suc i + in_arow is words (suc i) most)) ≡ false)
-          → is (words (i + in_arow is words i (suc most))) ≡ false
+      by_next : (i most : ℕ) (b : Bool) → is (words i) ≡ b → in_a_row is words i (suc most) < suc most
+          → (in_a_row is words (suc i) most < most → is (words (suc i + in_a_row is words (suc i) most)) ≡ false)
+          → is (words (i + in_a_row is words i (suc most))) ≡ false
       by_next i most true e h next =
           let one = row_on is words i most e in
-          let here : i + in_arow is words i (suc most) ≡ suc i + in_arow is words (suc i) most = omega (arith, one) in
+          let here : i + in_a_row is words i (suc most) ≡ suc i + in_a_row is words (suc i) most = omega (arith, one) in
           ap (λ (k : ℕ). is (words k)) here ∙ next (omega (arith, one))
       by_next i most false e h next =
           let none = row-off is words i (suc most) e in
-          let here : i + in_arow is words i (suc most) ≡ i = omega (arith, none) in
+          let here : i + in_a_row is words i (suc most) ≡ i = omega (arith, none) in
           ap (λ (k : ℕ). is (words k)) here ∙ e
 
-      pub row-stops : (i most : ℕ) → in_arow is words i most < most → is (words (i + in_arow is words i most)) ≡ false
+      pub row-stops : (i most : ℕ) → in_a_row is words i most < most → is (words (i + in_a_row is words i most)) ≡ false
       row-stops i zero h = absurd (omega (arith, h))
       row-stops i (suc most) h = by_next i most (is (words i)) refl h (λ k. row-stops (suc i) most k)
 
@@ -230,7 +230,7 @@ module _ (n : ℕ) (commands : List ℕ) (some : 1 ≤ n) where
   header-relied : (from b code : ℕ) → from ≤ b → b < all n commands → code < 32 → Relied (all n commands) from (header_at n words b code)
   unfolding header_at
   header-relied from b code f h small =
-      let count = in_arow (meant true false) words (b + 1) (function_of code).most in
+      let count = in_a_row (meant true false) words (b + 1) (function_of code).most in
       let padding = past-padding-inside n commands some (b + 1) (omega (arith, h)) in
       let few : count ≤ 7 = omega (arith, row-le (meant true false) words (b + 1) (function_of code).most, most-few code) in
       pick-both (Relied (all n commands) from) (function_of code).defined (message_at n words b code count) (found (event.Undefined code) no_message b (past_padding n words (b + 1)))
@@ -253,13 +253,13 @@ module _ (n : ℕ) (commands : List ℕ) (some : 1 ≤ n) where
   relied from h =
       let is = meant true true in
       let left = all n commands - from in
-      let skipped = in_arow is words from left in
+      let skipped = in_a_row is words from left in
       let b = from + skipped in
       at-relied from b (words b) refl (omega arith) (row_inside n commands some is refl from left h) (λ e. stop (dec_lt skipped left) e)
     where
-      stop : Dec (in_arow (meant true true) words from (all n commands - from) < all n commands - from)
-          → meant true true (words (from + in_arow (meant true true) words from (all n commands - from))) ≡ true
-          → from + in_arow (meant true true) words from (all n commands - from) ≡ all n commands
+      stop : Dec (in_a_row (meant true true) words from (all n commands - from) < all n commands - from)
+          → meant true true (words (from + in_a_row (meant true true) words from (all n commands - from))) ≡ true
+          → from + in_a_row (meant true true) words from (all n commands - from) ≡ all n commands
       stop (yes fewer) e = absurd (true≢false (sym e ∙ row-stops n commands some (meant true true) words from (all n commands - from) fewer))
       stop (no over) e = omega (arith, h, row-le (meant true true) words from (all n commands - from))
 

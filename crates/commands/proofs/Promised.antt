@@ -13,7 +13,7 @@ use Rattle.frame.specs.Modes.{row}
 use Rattle.commands.specs.declared.events.Event.TheVariants as event
 use Rattle.commands.specs.declared.events.Read.{Read}
 use Rattle.commands.specs.Words.{word_at}
-use Rattle.commands.specs.Writing.{channel_words, commands_for, written}
+use Rattle.commands.specs.Writing.{channel_words, commands_for}
 use Rattle.commands.specs.Reading.{found, event_in, reading, refusal_of}
 use Rattle.commands.specs.Promises.{Channels, Given, as_read, encoded, Accepted, opens, ReadsBack, OneEncoding, GoesOn, reads, place_after, Finishes, all_encoded, AllAccepted, all_read, AllReadBack}
 use Rattle.commands.proofs.Entry.{channel, line_defined, code-small, fits, enough, not-long}

@@ -13,7 +13,7 @@ use Rattle.frame.specs.Modes.{row, flagged_bound, numbers_of}
 use Rattle.commands.specs.declared.table51.Function.{Function}
 use Rattle.commands.specs.Table51.{function_of}
 use Rattle.commands.specs.Writing.{channel_words, commands_for, refusal_of}
-use Rattle.commands.specs.Reading.{refusal_of as listRefusal}
+use Rattle.commands.specs.Reading.{refusal_of as list_refusal}
 
 -- ---- of a message
 
@@ -54,18 +54,18 @@ module _ (n code : ℕ) (payload : List ℕ) (room : ℕ) where
 -- ---- of a list of commands
 
 module _ (mode : ℕ) (commands : List ℕ) (n : ℕ) (words : n ≡ channel_words mode) where
-  pub no-list : n ≡ 0 → 1 ≡ listRefusal mode commands
-  unfolding listRefusal refusal_by
+  pub no-list : n ≡ 0 → 1 ≡ list_refusal mode commands
+  unfolding list_refusal refusal_by
   no-list e = rw (← words, e)
 
   module _ (channel : n ≡ 0 → ⊥) (R : Row) (own : R ≡ row mode) (numbers : Numbers) (follow : numbers ≡ numbers_of R) where
     bound : numbers.flagged ≡ flagged_bound (row mode).sync
     bound = ap (λ (x : Numbers). x.flagged) follow ∙ ap (λ (x : Row). flagged_bound x.sync) own
 
-    pub command-wide : all_below numbers.flagged commands ≡ false → 6 ≡ listRefusal mode commands
-    unfolding listRefusal refusal_by
+    pub command-wide : all_below numbers.flagged commands ≡ false → 6 ≡ list_refusal mode commands
+    unfolding list_refusal refusal_by
     command-wide e = rw (← words, ne_eqb n 0 channel, ← bound, e)
 
-    pub list-fits : all_below numbers.flagged commands ≡ true → 0 ≡ listRefusal mode commands
-    unfolding listRefusal refusal_by
+    pub list-fits : all_below numbers.flagged commands ≡ true → 0 ≡ list_refusal mode commands
+    unfolding list_refusal refusal_by
     list-fits e = rw (← words, ne_eqb n 0 channel, ← bound, e)

@@ -42,9 +42,9 @@ five_bits Spoilt = 0
 five_bits End = 0
 
 -- how many words in a row are meant, from word i on, and of so many at most
-unfoldable pub in_arow : (Word → Bool) → (ℕ → Word) → ℕ → ℕ → ℕ
-in_arow is words i zero = 0
-in_arow is words i (suc most) = pick (is (words i)) (suc (in_arow is words (suc i) most)) 0
+unfoldable pub in_a_row : (Word → Bool) → (ℕ → Word) → ℕ → ℕ → ℕ
+in_a_row is words i zero = 0
+in_a_row is words i (suc most) = pick (is (words i)) (suc (in_a_row is words (suc i) most)) 0
 
 -- ---- events
 
@@ -65,7 +65,7 @@ past_command n i = n * (i / n + 1)
 module _ (n : ℕ) (words : ℕ → Word) where
   -- past the padding that stands from word i on: it fills a command, and is less than one
   unfoldable pub past_padding : ℕ → ℕ
-  past_padding i = i + in_arow (meant false true) words i n
+  past_padding i = i + in_a_row (meant false true) words i n
 
   -- the word to go on from where a message is cut before word i: a command that is spoilt goes with it
   unfoldable pub past_cut : ℕ → Bool → ℕ
@@ -87,7 +87,7 @@ module _ (n : ℕ) (words : ℕ → Word) where
   unfoldable pub header_at : ℕ → ℕ → Read
   header_at b code =
       pick (function_of code).defined
-      (message_at b code (in_arow (meant true false) words (b + 1) (function_of code).most))
+      (message_at b code (in_a_row (meant true false) words (b + 1) (function_of code).most))
       (found (event.Undefined code) no_message b (past_padding (b + 1)))
 
   -- what begins at word b, which says so; where nothing begins the list has ended
@@ -100,7 +100,7 @@ module _ (n : ℕ) (words : ℕ → Word) where
 
   -- where the first event begins at or after a word, of so many in all: payload and padding with nothing open are skipped
   unfoldable pub begin_from : ℕ → ℕ → ℕ
-  begin_from all from = from + in_arow (meant true true) words from (all - from)
+  begin_from all from = from + in_a_row (meant true true) words from (all - from)
 
   unfoldable pub event_from : ℕ → ℕ → Read
   event_from all from = event_at (begin_from all from) (words (begin_from all from))

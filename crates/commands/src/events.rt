@@ -3,7 +3,7 @@ ghost use Rattle.std.specs.Prelude.{◌≡◌};
 ghost use Rattle.commands.specs.Reading.{no_message};
 
 // A function code and its payload words, `count` of them, with 0 behind.
-#[derive(Drop)]
+#[derive(Clone, Copy)]
 pub struct Message {
     pub code: u8,
     pub count: usize,
@@ -11,7 +11,7 @@ pub struct Message {
 }
 
 // The list's end; a message; one that was cut, with the words of six bits that were taken; a code that is not defined.
-#[derive(Drop)]
+#[derive(Clone, Copy)]
 pub enum Event {
     Nothing,
     Message,
@@ -20,7 +20,7 @@ pub enum Event {
 }
 
 // A refusal, or 0 with an event, its message where it is one, the word with which it begins, and the word to go on from.
-#[derive(Drop)]
+#[derive(Clone, Copy)]
 pub struct Read {
     pub refusal: u8,
     pub event: Event,

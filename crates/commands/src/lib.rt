@@ -1,4 +1,6 @@
 // Command words and messages, written and read: clauses 7.3.7 and 7.6.3; request 6.
+#![tactic(auto)]
+
 ghost use Rattle.std.specs.Prelude.{◌≡◌};
 ghost use Rattle.commands.specs.Writing.{channel_words, done, writing};
 ghost use Rattle.commands.specs.Reading.{reading};
@@ -15,7 +17,7 @@ mod writing;
 
 // A refusal, or 0 with the commands written.
 #[repr(C)]
-#[derive(Drop)]
+#[derive(Clone, Copy)]
 pub struct Written {
     pub refusal: u8,
     pub count: usize,

@@ -2,7 +2,7 @@
 ghost use Rattle.std.specs.Prelude.{◌≡◌, true, ◌+◌, ◌≤◌, ◌<◌, ◌^◌, length};
 ghost use Rattle.commands.specs.Words.{word_at};
 ghost use Rattle.commands.specs.Table51.{function_of};
-ghost use Rattle.commands.specs.Reading.{meant, is_spoilt, five_bits, in_arow, no_message, found, complete, past_padding, past_command, payload_from, past_cut, message_at, header_at, event_at, event_in};
+ghost use Rattle.commands.specs.Reading.{meant, is_spoilt, five_bits, in_a_row, no_message, found, complete, past_padding, past_command, payload_from, past_cut, message_at, header_at, event_at, event_in};
 ghost use Rattle.commands.specs.declared.events.Event.TheVariants as event;
 
 use crate::events::{Event, Message, Read};
@@ -56,7 +56,7 @@ fn in_a_row(
     most: usize,
 ) -> usize
     requires { (1 ≤ n) × (n ≤ 3) × (at + most < 2 ^ 64) }
-    ensures { (result ≡ in_arow (meant payload padding) (word_at n commands.now) at most) × (result ≤ most) }
+    ensures { (result ≡ in_a_row (meant payload padding) (word_at n commands.now) at most) × (result ≤ most) }
 {
     let mut k: usize = 0;
     while k < most {

@@ -1,8 +1,8 @@
 // What is refused of a message and of a list of commands: document 01, "Numbers of refusal"; request 6.
 ghost use Rattle.std.specs.Prelude.{◌≡◌, ◌≤◌};
 ghost use Rattle.bits.specs.Bounds.{all_below};
-ghost use Rattle.commands.specs.Writing.{refusal_of as messageRefusal};
-ghost use Rattle.commands.specs.Reading.{refusal_of as listRefusal};
+ghost use Rattle.commands.specs.Writing.{refusal_of as message_refusal};
+ghost use Rattle.commands.specs.Reading.{refusal_of as list_refusal};
 
 use crate::{channel_words, table51};
 use frame::modes;
@@ -24,7 +24,7 @@ fn payload_fits(payload: &[u8]) -> bool
 // 1, 6, 10, 11, and 7 of what these let pass, for commands of `n` words and a list of `room` commands.
 pub(crate) fn of_message(n: usize, code: u8, payload: &[u8], room: usize) -> u8
     requires { n ≤ 3 }
-    ensures { result ≡ messageRefusal n code payload.now room }
+    ensures { result ≡ message_refusal n code payload.now room }
 {
     if n == 0 {
         return 1;
@@ -50,7 +50,7 @@ pub(crate) fn of_message(n: usize, code: u8, payload: &[u8], room: usize) -> u8
 
 // 1, or 6 where a command has a bit above the mark.
 pub(crate) fn of_list(mode: u8, commands: &[u32]) -> u8
-    ensures { result ≡ listRefusal mode commands.now }
+    ensures { result ≡ list_refusal mode commands.now }
 {
     if channel_words(mode) == 0 {
         return 1;

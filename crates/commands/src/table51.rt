@@ -3,7 +3,7 @@ ghost use Rattle.std.specs.Prelude.{◌≡◌};
 ghost use Rattle.commands.specs.Table51.{exactly, function_of};
 
 // Whether a code is defined, and the fewest and the most payload words behind it.
-#[derive(Drop)]
+#[derive(Clone, Copy)]
 pub(crate) struct Function {
     pub defined: bool,
     pub fewest: usize,

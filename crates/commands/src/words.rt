@@ -3,7 +3,7 @@ ghost use Rattle.std.specs.Prelude.{◌≡◌, ◌≤◌, ◌<◌};
 ghost use Rattle.commands.specs.Words.{parity_bit, with_parity, word_in, spoilt, said, word_at};
 
 // What a word says: a function code, five bits of payload, that it only fills its command, or that its command is not to be read.
-#[derive(Drop)]
+#[derive(Clone, Copy)]
 pub(crate) enum Word {
     Header(u8),
     Payload(u8),
