@@ -4,10 +4,9 @@ use mathlib.Core.Path.{◌≡◌, refl, sym, ap, ◌∙◌}
 use mathlib.Core.Logic.{◌⊎◌, inl, inr, ◌≢◌}
 use mathlib.Core.Bool.{Bool, true, false, true≢false}
 use mathlib.Core.List.{List}
-use Prim.Native.Nat.{ℕ, zero, suc, ◌+◌, ◌*◌, ◌≤◌, ◌<◌}
+use Prim.Native.Nat.{ℕ, zero, suc, ◌+◌, ◌≤◌, ◌<◌}
 use native.Mathlib.Nat.{add-zero}
 use native.Mathlib.Omega.{arith}
-use lib.Dec.{eqb}
 use lib.Bits.{bit_xor, xor_lt, xor_zero_r}
 use borrow.Author.Tests.{leb-true, eq-eqb, ne_eqb}
 use Rattle.bits.specs.Choice.{pick}
@@ -24,7 +23,7 @@ use Rattle.frame.specs.declared.modes.Sync.{Sync}
 use Rattle.frame.specs.declared.modes.Sync.TheVariants.{Crc12, Fec, Crc3, Command}
 use Rattle.frame.specs.Modes.{code, repairs, checks}
 use Rattle.judge.specs.declared.Verdict.{Verdict}
-use Rattle.judge.specs.Judge.{agrees, failed, by_burst, verdict_of, judged, mended, released_status, trusted_after}
+use Rattle.judge.specs.Judge.{agrees, failed, verdict_of, judged, mended, released_status, trusted_after}
 use Rattle.judge.specs.Sound.{Soundness, sound, unchecked, unsound, intact, soundness}
 use Rattle.judge.proofs.Mending.{flips-none}
 

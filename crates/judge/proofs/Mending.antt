@@ -15,7 +15,7 @@ use Rattle.bits.specs.Choice.{bit_of}
 use Rattle.bits.specs.Order.{bit_at, octets_of}
 use Rattle.bits.proofs.Additive.{bit}
 use Rattle.bits.proofs.Numbers.{bit-octet}
-use Rattle.bits.proofs.Octets.{octets_of-bits, octets_of-ext, length-octets_of}
+use Rattle.bits.proofs.Octets.{octets_of-bits, octets_of-ext}
 use Rattle.bits.proofs.Tests.{every, every-at}
 use Rattle.bits.proofs.Xor.{xor_assoc}
 use Rattle.parity.specs.Bursts.{flips}

@@ -1,5 +1,7 @@
 // What a waiting multiblock turns out to be, and what is released of it: document 01, "What the receiver releases"; clauses 7.4.1 and 7.5.3;
 // request 5.
+#![tactic(auto)]
+
 ghost use Rattle.std.specs.Prelude.{◌≡◌, ℕ, ◌<◌, ◌≤◌, length, get_or};
 ghost use Rattle.bits.specs.Order.{bit_at, number, laid_at};
 ghost use Rattle.scrambler.specs.Scrambling.{descrambled};
@@ -11,7 +13,7 @@ use frame::modes::Sync;
 use parity::{Burst, Crc3, Crc12, Fec};
 
 // Status 0, 1 or 2, and the burst that was flipped.
-#[derive(Drop)]
+#[derive(Clone, Copy)]
 pub struct Verdict {
     pub status: u8,
     pub place: u16,
@@ -19,7 +21,7 @@ pub struct Verdict {
 }
 
 // The verdict, and the status that is released with it; the history that the multiblock leaves, and whether it is trusted.
-#[derive(Drop)]
+#[derive(Clone, Copy)]
 pub struct Released {
     pub verdict: Verdict,
     pub status: u8,

@@ -10,7 +10,7 @@ use Rattle.frame.specs.declared.headers.Header.{Header}
 use Rattle.frame.specs.Headers.{header_read}
 use Rattle.lock.specs.ExtendedTable.{with_header, matches, following, moved, extended_step}
 use Rattle.lock.specs.Table.{lock_step}
-use Rattle.lock.specs.Ranges.{phase_in_range, extended_in_range, is_hunting, is_fresh, accepted}
+use Rattle.lock.specs.Ranges.{phase_in_range, extended_in_range, is_hunting, is_fresh}
 use Rattle.lock.specs.Refusals.{width_of, stepped}
 use Rattle.lock.specs.declared.Phase.{Phase}
 use Rattle.lock.specs.declared.Phase.TheVariants.{Following}

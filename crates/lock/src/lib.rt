@@ -1,4 +1,6 @@
 // The two locks of a receiver: on headers, and on extended multiblocks. Clause 7.6; document 01, "Lock tables".
+#![tactic(auto)]
+
 ghost use Rattle.std.specs.Prelude.{◌≡◌, true};
 ghost use Rattle.bits.specs.Refusals.{refusal_by};
 ghost use Rattle.lock.specs.ExtendedTable.{fresh_extended};
@@ -17,7 +19,7 @@ mod latest;
 mod range;
 
 // A run of valid headers, and a count of bad ones while locked.
-#[derive(Drop)]
+#[derive(Clone, Copy)]
 pub struct HeaderLock {
     pub locked: bool,
     pub offset: u32,
@@ -25,7 +27,7 @@ pub struct HeaderLock {
     pub bad: u32,
 }
 
-#[derive(Drop)]
+#[derive(Clone, Copy)]
 pub enum Phase {
     Hunting,
     Following,
@@ -35,7 +37,7 @@ pub enum Phase {
 // The last 32 sync bits, the latest in bit 0, with how many were seen: a missing one is 0.
 // Good counts while following, bad while locked, and next is the number of blocks to the next look. Kept is the number of blocks to where
 // a match that came while another is followed would be looked at next, 0 for none.
-#[derive(Drop)]
+#[derive(Clone, Copy)]
 pub struct ExtendedLock {
     pub phase: Phase,
     pub seen: u32,
@@ -46,13 +48,13 @@ pub struct ExtendedLock {
     pub kept: u32,
 }
 
-#[derive(Drop)]
+#[derive(Clone, Copy)]
 pub struct Lock {
     pub header: HeaderLock,
     pub extended: ExtendedLock,
 }
 
-#[derive(Drop)]
+#[derive(Clone, Copy)]
 pub struct Stepped {
     pub refusal: u8,
     pub lock: Lock,

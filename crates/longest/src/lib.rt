@@ -1,16 +1,18 @@
 // The longest run of multiblocks with status 0 or 1, handed back as that part of the caller's octets. Document 01, "What the receiver releases".
+#![tactic(auto)]
+
 ghost use Rattle.std.specs.Prelude.{◌≡◌};
 ghost use Rattle.longest.specs.Longest.{longer, span_of, part_of, refusal_for};
 
 // Multiblocks in a row: the first, and how many.
-#[derive(Drop)]
+#[derive(Clone, Copy)]
 pub struct Span {
     pub start: usize,
     pub count: usize,
 }
 
 // A refusal with an empty part, or 0 with the run's octets.
-#[derive(Drop)]
+#[derive(Clone, Copy)]
 pub struct Run<'a> {
     pub refusal: u8,
     pub part: &'a [u8],

@@ -1,4 +1,6 @@
 // The receiver: lane octets to user octets, with what became of each multiblock. Document 01, "What the receiver releases".
+#![tactic(auto)]
+
 ghost use Rattle.std.specs.Prelude.{◌≡◌};
 ghost use Rattle.receiver.specs.Release.{fresh};
 ghost use Rattle.receiver.specs.Entry.{done, entry};
@@ -11,7 +13,7 @@ use frame::modes;
 // What a receiver carries from one call to the next: whether a multiblock waits, its 256 scrambled octets, the history before it, whether
 // that is trusted, its command, how many of its headers were invalid, and what its own sync word carried of its parity (request 5); and how
 // many were released sound, repaired and failed so far (request 7).
-#[derive(Drop)]
+#[derive(Clone, Copy)]
 pub struct Receiver {
     pub waiting: bool,
     pub octets: [u8; 256],
@@ -26,7 +28,7 @@ pub struct Receiver {
 }
 
 // A refusal, or 0 with the multiblocks released; and the state for the next call.
-#[derive(Drop)]
+#[derive(Clone, Copy)]
 pub struct Received {
     pub refusal: u8,
     pub count: usize,

@@ -16,7 +16,7 @@ use frame::{headers, sync};
 
 // What a multiblock tells: its data octets as they came, what it carries of the parity of the one before it and of its own, its command, and
 // how many of its headers were invalid.
-#[derive(Drop)]
+#[derive(Clone, Copy)]
 pub(crate) struct Heard {
     octets: [u8; 256],
     parts: Parts,
@@ -44,7 +44,7 @@ fn hear(row: Row, lane: &[u8]) -> Heard
 }
 
 // A state, and how many multiblocks of the lane were taken for it.
-#[derive(Drop)]
+#[derive(Clone, Copy)]
 pub(crate) struct Begun {
     pub(crate) state: Receiver,
     pub(crate) taken: usize,

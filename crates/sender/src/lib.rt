@@ -1,4 +1,6 @@
 // The sender: user octets and commands to lane octets. Document 01, "From octets to lane bits" and "Numbers of refusal"; requests 2 and 5.
+#![tactic(auto)]
+
 ghost use Rattle.std.specs.Prelude.{◌≡◌};
 ghost use Rattle.sender.specs.Lane.{fresh};
 ghost use Rattle.sender.specs.Entry.{done, entry};
@@ -11,7 +13,7 @@ use frame::modes;
 // What a sender carries from one call to the next: the last 58 bits sent, what the next sync word carries of the parity of the last multiblock,
 // the number of the next multiblock in its extended multiblock, and the register that the next block's fill bits are taken from.
 #[repr(C)]
-#[derive(Drop)]
+#[derive(Clone, Copy)]
 pub struct Sender {
     pub history: u64,
     pub parity: u32,
@@ -21,7 +23,7 @@ pub struct Sender {
 
 // A refusal, or 0 with the multiblocks sent; and the state for the next call.
 #[repr(C)]
-#[derive(Drop)]
+#[derive(Clone, Copy)]
 pub struct Sent {
     pub refusal: u8,
     pub count: usize,

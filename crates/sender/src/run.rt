@@ -6,7 +6,7 @@ ghost use Rattle.parity.specs.Codeword.{multiblock_parity};
 ghost use Rattle.frame.specs.Modes.{code};
 ghost use Rattle.frame.specs.Lane.{lane_octets};
 ghost use Rattle.multiblock.specs.Shape.{shape};
-ghost use Rattle.sender.specs.Lane.{sent_one, after_one, lane as sentAll, after};
+ghost use Rattle.sender.specs.Lane.{sent_one, after_one, lane as sent_all, after};
 
 use crate::Sender;
 use frame::modes::{Row, Sync};
@@ -72,7 +72,7 @@ pub(crate) fn send_all(
     requires gap_value { (shape row.gap ≡ row.gap) × (size ≡ lane_octets row.gap) }
     requires commands_in_bounds { (256 * length commands.now ≤ length user.now) × (size * length commands.now ≤ length lane.old) × (start.number < e) }
     ensures value { result ≡ after row e start user.now commands.now }
-    ensures lane_after { lane.new ≡ laid (sentAll row e start user.now commands.now) lane.old }
+    ensures lane_after { lane.new ≡ laid (sent_all row e start user.now commands.now) lane.old }
 {
     let count = commands.len();
     let mut state = start;
