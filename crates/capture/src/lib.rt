@@ -1,4 +1,6 @@
 // The capture's form, the listing's text, and that of its messages: document 01, "Capture and listing"; request 6.
+#![tactic(auto)]
+
 ghost use Rattle.std.specs.Prelude.{◌≡◌, ◌+◌};
 ghost use Rattle.frame.specs.Modes.{longest_lane};
 ghost use Rattle.text.specs.Writing.{done};
@@ -20,7 +22,7 @@ pub const TEXT: usize = 18 + 15 * (modes::MOST - 1);
 pub const MESSAGES: usize = 21 + 17 * (3 * (modes::MOST - 1));
 
 // A refusal, or 0 with the mode, E, and where the lane octets stand.
-#[derive(Drop)]
+#[derive(Clone, Copy)]
 struct Opened {
     pub refusal: u8,
     pub mode: u8,

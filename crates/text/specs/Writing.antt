@@ -1,6 +1,6 @@
 -- What a call that writes a listing answers, and what the text holds after it: document 01, "Capture and listing" and "Numbers of refusal".
 -- Assumes nothing.
-use Rattle.std.specs.Prelude.{Bool, not, ◌&&◌, List, [], ◌∷◌, ℕ, ltb, eqb, length}
+use Rattle.std.specs.Prelude.{not, ◌&&◌, List, [], ◌∷◌, ℕ, ltb, eqb, length}
 use Rattle.bits.specs.Choice.{pick}
 use Rattle.bits.specs.Order.{laid}
 use Rattle.bits.specs.Refusals.{Line, ◌when◌, refusal_by}

@@ -66,7 +66,7 @@ pub(crate) fn put_field(text: &mut [u8], at: usize, n: u32, end: u8) -> usize
 }
 
 // A name of at most five letters: the first `count` of these octets.
-#[derive(Drop)]
+#[derive(Clone, Copy)]
 struct Letters {
     octets: [u8; 5],
     count: usize,

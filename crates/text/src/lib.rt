@@ -1,5 +1,7 @@
 // The text of a listing, from the lists of what was released, and the line of a refusal: document 01, "Capture and listing". The text of messages,
 // from the commands that were released: request 6.
+#![tactic(auto)]
+
 ghost use Rattle.std.specs.Prelude.{◌≡◌, ◌&&◌, eqb};
 ghost use Rattle.text.specs.Text.{refused_line};
 ghost use Rattle.text.specs.Writing.{done, room_over, written};
@@ -14,7 +16,7 @@ mod messages;
 
 // A refusal, or 0 with the octets of text.
 #[repr(C)]
-#[derive(Drop)]
+#[derive(Clone, Copy)]
 pub struct Listed {
     pub refusal: u8,
     pub count: usize,
