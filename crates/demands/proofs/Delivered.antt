@@ -1,6 +1,6 @@
 -- What a fresh receiver makes of a lane with flips in bursts, over any row: which multiblocks it has right, the histories that they leave, and
 -- so which octets it releases. Assumes nothing.
-use mathlib.Core.Path.{◌≡◌, refl, sym, ap, ap₂, ◌∙◌, subst}
+use mathlib.Core.Path.{◌≡◌, refl, sym, ap, ap₂, ◌∙◌}
 use mathlib.Core.Logic.{◌⊎◌, inl, inr, ◌≢◌, ⊎_elim}
 use mathlib.Core.Bool.{Bool, true, false, true≢false}
 use mathlib.Core.List.{List}
@@ -9,11 +9,11 @@ use native.Mathlib.Nat.{mod-eq_of_lt, mod-lt, div-add-mod, mul-suc, mul-one, mul
 use native.Mathlib.Decide.{ℕ_discrete}
 use native.Mathlib.Omega.{arith}
 use lib.Bits.{bit_xor, xor_self, xor_comm, xor_zero_r}
-use lib.ListN.{length, get_or}
-use Rattle.bits.specs.Order.{bit_at, number}
-use Rattle.bits.proofs.Xor.{xor_assoc, xor-eq}
+use lib.ListN.{get_or}
+use Rattle.bits.specs.Order.{bit_at}
+use Rattle.bits.proofs.Xor.{xor_assoc}
 use Rattle.bits.proofs.Numbers.{bit_at_lt, number-ext}
-use Rattle.scrambler.specs.Scrambling.{sent, history_after, descrambled}
+use Rattle.scrambler.specs.Scrambling.{sent, history_after}
 use Rattle.scrambler.proofs.Scrambling.{history-sent, history-lt, octet-undone}
 use Rattle.parity.specs.Codeword.{Code, data_bits, joined, multiblock_parity, remainder_of}
 use Rattle.parity.specs.Bursts.{BurstSet, IsBurst, flips}
@@ -21,18 +21,17 @@ use Rattle.parity.proofs.Received.{remainder-none}
 use Rattle.parity.proofs.Groups.{joined-none, joined-one, joined-zero, joined-zeros}
 use Rattle.parity.proofs.Sets.{named, no-set-zero, remainder-same}
 use Rattle.frame.specs.declared.modes.Row.{Row}
-use Rattle.frame.specs.Modes.{code, repairs, checks}
+use Rattle.frame.specs.Modes.{code, repairs}
 use Rattle.frame.specs.Lane.{lane_octets, data_place, data_octets}
 use Rattle.frame.proofs.Rows.{proper, all-grouped, blocks-some, one-group}
 use Rattle.frame.proofs.Places.{data_is, data-octets-bit}
-use Rattle.receiver.specs.declared.Receiver.{Receiver}
 use Rattle.judge.specs.declared.Verdict.{Verdict}
-use Rattle.judge.specs.Judge.{agrees, failed, judged, mended, released_status, trusted_after}
+use Rattle.judge.specs.Judge.{agrees, failed, released_status, trusted_after}
 use Rattle.receiver.specs.Release.{release_at}
 use Rattle.judge.specs.Sound.{sound, intact, soundness}
 use Rattle.receiver.proofs.Numbered.{waiting, verdict, repaired, verdict-is, repaired-is, octets-are, status-is, first-trusted, next-history, next-trusted}
 use Rattle.judge.proofs.Verdicts.{small}
-use Rattle.judge.proofs.Judging.{judged-sound, judged-failed, judged-burst, mended-bit, mended-none, status-trusted, status-untrusted, trusted-after, untrusted-after, Believed, believed, called-sound}
+use Rattle.judge.proofs.Judging.{judged-sound, judged-failed, judged-burst, mended-bit, mended-none, status-trusted, status-untrusted, trusted-after, untrusted-after, believed, called-sound}
 use Rattle.demands.specs.Damage.{Pairwise}
 use Rattle.demands.proofs.Wrong as W
 use Rattle.demands.proofs.Places.{data-inside, data-from-start}

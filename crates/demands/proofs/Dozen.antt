@@ -1,6 +1,6 @@
 -- The dozen cases of document 01 hold: one table, one theorem over all its rows, by computing. Of data that begin with zeros only the rest
 -- counts. Assumes nothing.
-use mathlib.Core.Path.{◌≡◌, refl, sym, ◌∙◌, subst}
+use mathlib.Core.Path.{◌≡◌, refl, sym, subst}
 use mathlib.Core.List.{List, [], ◌∷◌, Memᴰ}
 use Prim.Native.Nat.{ℕ}
 use Rattle.bits.specs.Order.{bit_at, list_from, bits_of, number, octets_of}
@@ -36,9 +36,9 @@ computed = (
   ),
 )
 
-each : (l : List Case) → All l → (c : Case) → Memᴰ c l → Right c
-each l all c (Memᴰ.head {x} {xs} e) = subst Right (sym e) all.0
-each l all c (Memᴰ.tail {x} {xs} m) = each xs all.1 c m
+each : (c : Case) (l : List Case) → All l → Memᴰ c l → Right c
+each c l all (Memᴰ.head {x} {xs} e) = subst Right (sym e) all.0
+each c l all (Memᴰ.tail {x} {xs} m) = each c xs all.1 m
 
 pub all_right : (c : Case) → Memᴰ c dozen → Right c
-all_right = each dozen computed
+all_right c m = each c dozen computed m

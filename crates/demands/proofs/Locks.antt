@@ -10,7 +10,6 @@ use borrow.Author.Tests.{eq-eqb, ne_eqb}
 use lib.Dec.{eqb}
 use lib.ListN.{length, get_or}
 use Rattle.bits.specs.Choice.{bit_of}
-use Rattle.frame.specs.declared.modes.Sync.{Sync}
 use Rattle.frame.specs.declared.sync.Parts.{Parts}
 use Rattle.frame.specs.declared.modes.Row.{Row}
 use Rattle.frame.specs.Modes.{known, row, repairs, extent_fits}
@@ -22,10 +21,10 @@ use Rattle.frame.proofs.Reading.{carried, header-valid}
 use Rattle.frame.proofs.Rows.{extent-fits}
 use Rattle.frame.proofs.Sizes.{width_some, octets-blocks}
 use Rattle.sender.specs.declared.Sender.{Sender}
-use Rattle.sender.specs.Lane.{lane, last}
+use Rattle.sender.specs.Lane.{lane}
 use Rattle.sender.proofs.States.{Fits}
 use Rattle.sender.proofs.Runs.{lane-length}
-use Rattle.sender.proofs.Multiblocks.{before, carried as carriedParts, number-before, value-sent}
+use Rattle.sender.proofs.Multiblocks.{before, carried as carried_parts, number-before, value-sent}
 use Rattle.lock.specs.declared.Lock.{Lock}
 use Rattle.lock.specs.Run.{state_after}
 use Rattle.lock.specs.Stream.{PilotHeaders}
@@ -45,7 +44,7 @@ module _ (mode E : ℕ) (is_Known : known mode ≡ true) (crc : repairs (row mod
 
   -- the parities that its sync words carry
   abbrev parts : ℕ → Parts
-  parts i = carriedParts R E s user commands given i
+  parts i = carried_parts R E s user commands given i
 
   -- the lane's first multiblock has the sender's number, so that all are counted from there
   start : ℕ

@@ -104,7 +104,7 @@ module _ {mode E : ℕ} (t : Transfer mode E) where
   -- all but the last were released
   pub releases-are : releases t ≡ count - 1
   unfolding out
-  releases-are = ap length (all-run.lists _ (λ (r : Release). r.status) (λ x o s c p q i. (s, refl))) ∙ column-length (λ (r : Release). r.status) out ∙ out-length
+  releases-are = ap length (all-run.lists (λ x. x.statuses) (λ (r : Release). r.status) (λ x o s c p q i. (s, refl))) ∙ column-length (λ (r : Release). r.status) out ∙ out-length
 
   pub all-released : (i : ℕ) → i < releases t → suc i < count
   all-released i h = omega (arith, releases-are)
@@ -113,7 +113,7 @@ module _ {mode E : ℕ} (t : Transfer mode E) where
   pub commands-length : length (commands_released mode fresh t.receivings) ≡ releases t
   unfolding out
   commands-length =
-      ap length (all-run.lists _ (λ (r : Release). r.command) (λ x o s c p q i. (c, refl)))
+      ap length (all-run.lists (λ x. x.commands) (λ (r : Release). r.command) (λ x o s c p q i. (c, refl)))
       ∙ column-length (λ (r : Release). r.command) out ∙ out-length ∙ sym releases-are
 
   -- no more than were given
@@ -130,14 +130,14 @@ module _ {mode E : ℕ} (t : Transfer mode E) where
     pub status-at : status t i ≡ (release_at R after (suc i) (waiting R after i)).status
     unfolding out
     status-at =
-        ap (λ (x : List ℕ). get_or x i 0) (all-run.lists _ (λ (r : Release). r.status) (λ x o s c p q i. (s, refl)))
+        ap (λ (x : List ℕ). get_or x i 0) (all-run.lists (λ x. x.statuses) (λ (r : Release). r.status) (λ x o s c p q i. (s, refl)))
         ∙ column-at (λ (r : Release). r.status) out i (omega (arith, out-length))
         ∙ ap (λ (r : Release). r.status) (at i l)
 
     pub command-at : command_told t i ≡ flagged_command R.sync (header_at R.gap after i)
     unfolding out
     command-at =
-        ap (λ (x : List ℕ). get_or x i 0) (all-run.lists _ (λ (r : Release). r.command) (λ x o s c p q v. (c, refl)))
+        ap (λ (x : List ℕ). get_or x i 0) (all-run.lists (λ x. x.commands) (λ (r : Release). r.command) (λ x o s c p q v. (c, refl)))
         ∙ column-at (λ (r : Release). r.command) out i (omega (arith, out-length))
         ∙ ap (λ (r : Release). r.command) (at i l)
         ∙ command-is R after i
@@ -145,7 +145,7 @@ module _ {mode E : ℕ} (t : Transfer mode E) where
     pub invalid-at : invalid_told t i ≡ invalid_headers R.gap after i
     unfolding out
     invalid-at =
-        ap (λ (x : List ℕ). get_or x i 0) (all-run.lists _ (λ (r : Release). r.invalid) (λ x o s c p q v. (v, refl)))
+        ap (λ (x : List ℕ). get_or x i 0) (all-run.lists (λ x. x.invalid) (λ (r : Release). r.invalid) (λ x o s c p q v. (v, refl)))
         ∙ column-at (λ (r : Release). r.invalid) out i (omega (arith, out-length))
         ∙ ap (λ (r : Release). r.invalid) (at i l)
         ∙ invalid-is R after i

@@ -3,7 +3,7 @@
 use mathlib.Core.Path.{◌≡◌, refl, sym, ap, ap₂, ◌∙◌, subst, fun_ext}
 use mathlib.Core.Bool.{false}
 use mathlib.Core.List.{List, [], ◌∷◌, ◌++◌}
-use Prim.Native.Nat.{ℕ, zero, suc, ◌+◌, ◌-◌, ◌*◌, ◌^◌, ◌<◌, ◌≤◌}
+use Prim.Native.Nat.{ℕ, zero, suc, ◌+◌, ◌*◌, ◌^◌, ◌<◌, ◌≤◌}
 use native.Mathlib.Nat.{mul-zero, mul-add, mod-eq_of_lt}
 use native.Mathlib.Omega.{arith}
 use lib.ListN.{length, get_or, take, length-append}
@@ -26,12 +26,12 @@ use Rattle.frame.proofs.Reading.{carried as read_back}
 use Rattle.frame.proofs.SyncWord.{place, field_at, all-stand, held-lt, held-digit, only-there, reads-command, only-flagged, unflagged}
 use Rattle.frame.proofs.Lane.{lane_from, header-by-value, data-moved, header-at-moved, sync-moved, octets-moved}
 use Rattle.sender.specs.declared.Sender.{Sender}
-use Rattle.sender.specs.Lane.{last, lane, after}
+use Rattle.sender.specs.Lane.{last, lane}
 use Rattle.sender.specs.Refusal.{refusal_of}
 use Rattle.sender.proofs.States.{Fits}
 use Rattle.sender.proofs.Runs.{lane-join, lane-length}
 use Rattle.sender.proofs.Entry.{answered, returned, counted, written, commands-fit, whole, blocks, fits}
-use Rattle.sender.proofs.Multiblocks.{before as stateBefore, carried, value-sent, data-sent, valid-sent, parity-sent}
+use Rattle.sender.proofs.Multiblocks.{before as state_before, carried, value-sent, data-sent, valid-sent, parity-sent}
 use Rattle.receiver.proofs.Numbered.{parity_on}
 use Rattle.demands.specs.Calls.{Sending, sending, user_octets, commands_given, AllSent, lane_sent}
 use Rattle.demands.proofs.Wrong.{Bits}
@@ -210,7 +210,7 @@ command-sent mode E s calls one first i inside =
     c = get_or commands m 0
 
     mark : ℕ
-    mark = bit_of (last E (stateBefore (row mode) E s user commands enough m))
+    mark = bit_of (last E (state_before (row mode) E s user commands enough m))
 
     word : ℕ
     word = sync_word S parts c mark

@@ -2,7 +2,7 @@
 -- which is a burst, or empty, where the flips lie in bursts. Over any row and any of its groups. Assumes nothing.
 use mathlib.Core.Path.{◌≡◌, refl, sym, ap, ap₂, ◌∙◌, subst}
 use mathlib.Core.Logic.{◌⊎◌, inl, inr, ◌≢◌, ⊎_elim}
-use Prim.Native.Nat.{ℕ, zero, suc, ◌+◌, ◌-◌, ◌*◌, ◌/◌, ◌%◌, ◌^◌, ◌<◌, ◌≤◌}
+use Prim.Native.Nat.{ℕ, zero, suc, ◌+◌, ◌-◌, ◌*◌, ◌^◌, ◌<◌, ◌≤◌}
 use native.Mathlib.Nat.{zero-lt-suc, le_refl, mul-suc, mul-le-mul_left}
 use native.Mathlib.Decide.{dec_lt, ℕ_discrete}
 use native.Mathlib.Omega.{arith}
@@ -19,7 +19,7 @@ use Rattle.parity.proofs.Groups.{group_parity-lt, joined-xor}
 use Rattle.parity.proofs.Sets.{unnamed}
 use Rattle.frame.specs.declared.modes.Row.{Row}
 use Rattle.frame.specs.Modes.{before, own, parity, layout, code}
-use Rattle.frame.specs.Lane.{lane_octets, header_place, data_place, data_bit, sync_bit, data_octets}
+use Rattle.frame.specs.Lane.{lane_octets, header_place, data_place, sync_bit, data_octets}
 use Rattle.frame.specs.SyncWord.{read_parity, whole}
 use Rattle.frame.proofs.Rows.{proper, all-grouped, lower-fits}
 use Rattle.frame.proofs.SyncWord.{only-there}

@@ -4,7 +4,7 @@ use mathlib.Core.List.{List, [], ◌∷◌, Memᴰ}
 use Rattle.bits.specs.Choice.{bit_of}
 use Rattle.bits.specs.Order.{bit_at, list_from}
 use Rattle.parity.specs.Codeword.{fec, remainder_of}
-use Rattle.parity.specs.Bursts.{BurstSet, IsBurst, flips as burstFlips}
+use Rattle.parity.specs.Bursts.{BurstSet, IsBurst, flips as burst_flips}
 use Rattle.frame.specs.Modes.{code, repairs, checks, rows, known, row}
 use Rattle.fill.specs.Register.{register_after, shifts, still}
 use Rattle.fill.specs.Table38.{fill_bit}
@@ -206,7 +206,7 @@ BurstsByPairs =
 abbrev pub OneBurst : Type 0
 OneBurst =
     (p q s t : ℕ) → IsBurst fec.limit fec.positions p q → IsBurst fec.limit fec.positions s t
-    → remainder_of fec (burstFlips p q) ≡ remainder_of fec (burstFlips s t) → (p ≡ s) × (q ≡ t)
+    → remainder_of fec (burst_flips p q) ≡ remainder_of fec (burst_flips s t) → (p ≡ s) × (q ≡ t)
 
 abbrev pub OneSet : Type 0
 OneSet =
