@@ -1,8 +1,10 @@
 // The entries for callers in C. A slice is a pointer and a length there; a state is a struct of numbers, by value.
+#![tactic(auto)]
+
 ghost use Rattle.std.specs.Prelude.{◌≡◌};
 ghost use Rattle.sender.specs.Lane.{fresh};
-ghost use Rattle.sender.specs.Entry.{done as sendDone, entry};
-ghost use Rattle.text.specs.Writing.{done as listDone};
+ghost use Rattle.sender.specs.Entry.{done as send_done, entry};
+ghost use Rattle.text.specs.Writing.{done as list_done};
 ghost use Rattle.capture.specs.Listing.{listed};
 ghost use Rattle.capture.specs.Messages.{told};
 ghost use Rattle.zaytulobe.specs.Running.{longest_numbers};
@@ -18,7 +20,7 @@ pub mod receiving;
 
 // A refusal, or 0 with the longest run in multiblocks: the first, and how many.
 #[repr(C)]
-#[derive(Drop)]
+#[derive(Clone, Copy)]
 pub struct RunNumbers {
     pub refusal: u8,
     pub start: usize,
@@ -43,7 +45,7 @@ pub extern "C" fn zaytulobe_send(
     commands: &[u32],
     lane: &mut [u8],
 ) -> Sent
-    ensures { sendDone result lane.new ≡ entry mode e state user.now commands.now lane.old }
+    ensures { send_done result lane.new ≡ entry mode e state user.now commands.now lane.old }
 {
     sender::send(mode, e, state, user, commands, lane)
 }
@@ -72,7 +74,7 @@ pub extern "C" fn zaytulobe_longest_run(octets: &[u8], statuses: &[u8]) -> RunNu
 // The listing of a capture, over the start of `text`.
 #[unsafe(no_mangle)]
 pub extern "C" fn zaytulobe_listing(capture: &[u8], text: &mut [u8]) -> Listed
-    ensures { listDone result text.new ≡ listed capture.now text.old }
+    ensures { list_done result text.new ≡ listed capture.now text.old }
 {
     capture::listing(capture, text)
 }
@@ -80,7 +82,7 @@ pub extern "C" fn zaytulobe_listing(capture: &[u8], text: &mut [u8]) -> Listed
 // What is told of the messages in a capture, over the start of `text`.
 #[unsafe(no_mangle)]
 pub extern "C" fn zaytulobe_messages(capture: &[u8], text: &mut [u8]) -> Listed
-    ensures { listDone result text.new ≡ told capture.now text.old }
+    ensures { list_done result text.new ≡ told capture.now text.old }
 {
     capture::messages(capture, text)
 }

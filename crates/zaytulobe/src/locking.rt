@@ -12,7 +12,7 @@ use lock::Lock;
 
 // A refusal or 0, and the locks for the next step.
 #[repr(C)]
-#[derive(Drop)]
+#[derive(Clone, Copy)]
 pub struct SteppedNumbers {
     pub refusal: u8,
     pub lock: LockNumbers,

@@ -7,7 +7,7 @@ use lock::{ExtendedLock, HeaderLock, Lock, Phase};
 
 // Header lock as numbers: `locked` is 0 or 1.
 #[repr(C)]
-#[derive(Drop)]
+#[derive(Clone, Copy)]
 pub struct HeaderNumbers {
     pub locked: u32,
     pub offset: u32,
@@ -17,7 +17,7 @@ pub struct HeaderNumbers {
 
 // Extended lock as numbers: `phase` is 0 hunting, 1 following, 2 locked.
 #[repr(C)]
-#[derive(Drop)]
+#[derive(Clone, Copy)]
 pub struct ExtendedNumbers {
     pub phase: u32,
     pub seen: u32,
@@ -30,7 +30,7 @@ pub struct ExtendedNumbers {
 
 // Both locks as numbers.
 #[repr(C)]
-#[derive(Drop)]
+#[derive(Clone, Copy)]
 pub struct LockNumbers {
     pub header: HeaderNumbers,
     pub extended: ExtendedNumbers,

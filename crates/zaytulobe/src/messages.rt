@@ -9,7 +9,7 @@ use commands::events::{Event, Read};
 
 // A refusal, or 0 with an event: `kind` is 0 for the list's end, 1 a message, 2 a cut, 3 a code that is not defined.
 #[repr(C)]
-#[derive(Drop)]
+#[derive(Clone, Copy)]
 pub struct EventNumbers {
     pub refusal: u8,
     pub kind: u8,

@@ -7,7 +7,7 @@ use receiver::Receiver;
 
 // `waiting` and `trusted` are 0 or 1.
 #[repr(C)]
-#[derive(Drop)]
+#[derive(Clone, Copy)]
 pub struct ReceiverNumbers {
     pub history: u64,
     pub command: u32,

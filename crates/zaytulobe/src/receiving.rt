@@ -12,7 +12,7 @@ use receiver::Receiver;
 
 // A refusal, or 0 with the multiblocks released; and the state for the next call.
 #[repr(C)]
-#[derive(Drop)]
+#[derive(Clone, Copy)]
 pub struct ReceivedNumbers {
     pub refusal: u8,
     pub count: usize,

@@ -1,6 +1,3 @@
--- `zaytulobe::zaytulobe_longest_run` meets its contract.
--- Assumes nothing.
-use borrow.Author.Rules.{rules}
 use mathlib.Core.Path.{◌≡◌, ap, ◌∙◌}
 use mathlib.Core.List.{List}
 use Prim.Native.Nat.{ℕ}
@@ -9,8 +6,7 @@ use Rattle.longest.specs.Longest.{span_of, refusal_for}
 use Rattle.zaytulobe.specs.declared.RunNumbers.{RunNumbers}
 use Rattle.zaytulobe.specs.Running.{longest_numbers}
 use Rattle.zaytulobe.proofs.Answers.{by_number, by-none}
-use Rattle.zaytulobe.proofs.zaytulobe_longest_run.Statement.{statement}
-use Rattle.zaytulobe.proofs.zaytulobe_longest_run.Tie as tie
+use Rattle.zaytulobe.proofs.zaytulobe_longest_run.Goals as goal
 
 module _ (octets statuses : List ℕ) (refusal : ℕ) (e : refusal ≡ refusal_for octets statuses) where
   abbrev whole : RunNumbers
@@ -30,25 +26,14 @@ module _ (octets statuses : List ℕ) (refusal : ℕ) (e : refusal ≡ refusal_f
       ap (λ (y : Span). record { refusal = 0; start = y.start; count = y.count }) s
       ∙ by-none refusal (refusal_for octets statuses) whole refused e none
 
-refusal-for-requires : tie.Need-refusal-for-requires
-refusal-for-requires c κs = search rules
+pub returns-then-refusal-ne0 : goal.returns-then-refusal-ne0
+returns-then-refusal-ne0 c =
+    let a = c.args in
+    let f = c.refusal_for-refusal in
+    is-refused a.octets.now a.statuses.now f.result f.ensures c.if-refusal-ne0.true
 
-returns : tie.Need-returns
+pub returns : goal.returns
 returns c =
-    let a = c.before.before.before.before.args in
-    let f = c.before.refusal-for in
-    is-refused a.octets.now a.statuses.now f.result f.ensures c.if1.true
-
-span-of-requires : tie.Need-span-of-requires
-span-of-requires c κs = search rules
-
-returns-2 : tie.Need-returns-2
-returns-2 c =
-    let a = c.before.before.before.before.before.args in
-    let f = c.before.before.refusal-for in
-    is-run a.octets.now a.statuses.now f.result f.ensures c.before.if1.false c.Span-of.result c.Span-of.ensures
-
-pub zaytulobe-longest-run-spec : {M : Type 1} → statement M
-zaytulobe-longest-run-spec =
-    tie.close
-    (tie.spec refusal-for-requires returns span-of-requires returns-2)
+    let a = c.args in
+    let f = c.refusal_for-refusal in
+    is-run a.octets.now a.statuses.now f.result f.ensures c.if-refusal-ne0.false c.span_of-span.result c.span_of-span.ensures

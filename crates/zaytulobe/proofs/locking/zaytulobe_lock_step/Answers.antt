@@ -1,6 +1,3 @@
--- `zaytulobe::locking::zaytulobe_lock_step` meets its contract.
--- Assumes nothing.
-use borrow.Author.Rules.{rules}
 use mathlib.Core.Path.{◌≡◌, ap, ◌∙◌}
 use Prim.Native.Nat.{ℕ}
 use Rattle.bits.specs.Refusals.{refusal_by}
@@ -12,8 +9,7 @@ use Rattle.zaytulobe.specs.declared.locking.SteppedNumbers.{SteppedNumbers}
 use Rattle.zaytulobe.specs.Locks.{state_of, as_numbers}
 use Rattle.zaytulobe.specs.Locking.{in_numbers, refusals, step_numbers}
 use Rattle.zaytulobe.proofs.Answers.{by_number, by-none}
-use Rattle.zaytulobe.proofs.locking.zaytulobe_lock_step.Statement.{statement}
-use Rattle.zaytulobe.proofs.locking.zaytulobe_lock_step.Tie as tie
+use Rattle.zaytulobe.proofs.locking.zaytulobe_lock_step.Goals as goal
 
 module _ (mode E : ℕ) (x : LockNumbers) (header refusal : ℕ) (e : refusal ≡ refusal_by (refusals mode E x)) where
   abbrev whole : SteppedNumbers
@@ -35,32 +31,13 @@ module _ (mode E : ℕ) (x : LockNumbers) (header refusal : ℕ) (e : refusal �
       ∙ ap in_numbers (s ∙ ap (λ (y : Lock). stepped mode E y header) g)
       ∙ by-none refusal (refusal_by (refusals mode E x)) whole refused e none
 
-refusal-of-requires : tie.Need-refusal-of-requires
-refusal-of-requires c κs = search rules
+pub returns-then-refusal-ne0 : goal.returns-then-refusal-ne0
+returns-then-refusal-ne0 c =
+    let a = c.args in
+    is-refused a.mode a.e a.lock a.header _ c.refusal_of-refusal.ensures c.if-refusal-ne0.true
 
-returns : tie.Need-returns
+pub returns : goal.returns
 returns c =
-    let a = c.before.before.args in
-    is-refused a.mode a.e a.lock a.header _ c.before.refusal-of.ensures c.if1.true
-
-state-of-requires : tie.Need-state-of-requires
-state-of-requires c κs = search rules
-
-step-requires : tie.Need-step-requires
-step-requires c κs = search rules
-
-as-numbers-requires : tie.Need-as-numbers-requires
-as-numbers-requires c κs = search rules
-
-returns-2 : tie.Need-returns-2
-returns-2 c =
-    let stepped = c.before.before in
-    let given = stepped.before in
-    let a = given.before.before.before.args in
-    is-stepped a.mode a.e a.lock a.header _ given.before.before.refusal-of.ensures given.before.if1.false
-    given.state-of.result stepped.step.result c.as-numbers.result given.state-of.ensures stepped.step.ensures c.as-numbers.ensures
-
-pub zaytulobe-lock-step-spec : {M : Type 1} → statement M
-zaytulobe-lock-step-spec =
-    tie.close
-    (tie.spec refusal-of-requires returns state-of-requires step-requires as-numbers-requires returns-2)
+    let a = c.args in
+    is-stepped a.mode a.e a.lock a.header _ c.refusal_of-refusal.ensures c.if-refusal-ne0.false
+    c.state_of-given.result c.step-stepped.result c.as_numbers-numbers.result c.state_of-given.ensures c.step-stepped.ensures c.as_numbers-numbers.ensures
