@@ -1,9 +1,11 @@
 // Reads a capture on standard input and writes the messages in its commands, or the number by which it is refused: request 6.
+#![tactic(auto)]
+
 ghost use Rattle.std.specs.Prelude.{◌≡◌, ◌≤◌, length, take};
 ghost use Rattle.capture.specs.Messages.{longest_messages};
 ghost use Rattle.lanecommands.specs.Output.{printed};
 
-use libc::{STDIN_FILENO, STDOUT_FILENO};
+use std::io;
 
 // One octet more than a capture may have, so that one that is too long is seen to be.
 const READ: usize = capture::LONGEST + 1;
@@ -22,10 +24,10 @@ fn print(octets: &[u8], text: &mut [u8]) -> usize
     told.count
 }
 
-fn main() {
+fn main(rt: HostRuntime) -> io::Result<()> {
     let mut octets = [0u8; READ];
     let mut text = [0u8; capture::MESSAGES];
-    let got = io::read_full(STDIN_FILENO, &mut octets);
+    let got = input::read_full(&mut rt.stdin(), &mut octets)?;
     let count = print(&octets[..got], &mut text);
-    io::write_all(STDOUT_FILENO, &text[..count]);
+    rt.write_all(&text[..count])
 }

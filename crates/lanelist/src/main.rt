@@ -1,9 +1,11 @@
 // Reads a capture on standard input and writes its listing, or the number by which it is refused: document 01, "Capture and listing".
+#![tactic(auto)]
+
 ghost use Rattle.std.specs.Prelude.{◌≡◌, ◌≤◌, length, take};
 ghost use Rattle.capture.specs.Listing.{longest_text};
 ghost use Rattle.lanelist.specs.Output.{printed};
 
-use libc::{STDIN_FILENO, STDOUT_FILENO};
+use std::io;
 
 // One octet more than a capture may have, so that one that is too long is seen to be.
 const READ: usize = capture::LONGEST + 1;
@@ -22,10 +24,10 @@ fn print(octets: &[u8], text: &mut [u8]) -> usize
     listed.count
 }
 
-fn main() {
+fn main(rt: HostRuntime) -> io::Result<()> {
     let mut octets = [0u8; READ];
     let mut text = [0u8; capture::TEXT];
-    let got = io::read_full(STDIN_FILENO, &mut octets);
+    let got = input::read_full(&mut rt.stdin(), &mut octets)?;
     let count = print(&octets[..got], &mut text);
-    io::write_all(STDOUT_FILENO, &text[..count]);
+    rt.write_all(&text[..count])
 }

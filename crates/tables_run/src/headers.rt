@@ -3,26 +3,27 @@
 use crate::text;
 use frame::headers;
 use frame::headers::Header;
+use std::io;
 
-fn write_invalid(pair: u8) {
-    text::write(b"invalid ");
-    text::write_decimal(pair as u64);
+fn write_invalid(rt: &impl Print, pair: u8) -> io::Result<()> {
+    text::write(rt, b"invalid ")?;
+    text::write_decimal(rt, pair as u64)
 }
 
-fn write_header(header: Header) {
+fn write_header(rt: &impl Print, header: Header) -> io::Result<()> {
     match header {
-        Header::One => text::write(b"one"),
-        Header::Zero => text::write(b"zero"),
-        Header::Invalid(pair) => write_invalid(pair),
+        Header::One => text::write(rt, b"one"),
+        Header::Zero => text::write(rt, b"zero"),
+        Header::Invalid(pair) => write_invalid(rt, pair),
     }
 }
 
-fn write_value(value: u8) {
-    text::write(b"header ");
-    text::write_decimal(value as u64);
-    text::write(b" -> ");
-    write_header(headers::read(value));
-    text::write(b"\n");
+fn write_value(rt: &impl Print, value: u8) -> io::Result<()> {
+    text::write(rt, b"header ")?;
+    text::write_decimal(rt, value as u64)?;
+    text::write(rt, b" -> ")?;
+    write_header(rt, headers::read(value))?;
+    text::write(rt, b"\n")
 }
 
 // 1 and 0; of an invalid header l where its bits are low, and h where they are high.
@@ -34,47 +35,48 @@ fn letter(header: Header) -> u8 {
     }
 }
 
-fn write_letter(first: u32, second: u32, block: u32) {
+fn write_letter(rt: &impl Print, first: u32, second: u32, block: u32) -> io::Result<()> {
     let written = [letter(headers::header_at(first, second, block))];
-    text::write(&written);
+    text::write(rt, &written)
 }
 
-fn write_letters(first: u32, second: u32) {
+fn write_letters(rt: &impl Print, first: u32, second: u32) -> io::Result<()> {
     for block in 0..32u32 {
-        write_letter(first, second, block);
+        write_letter(rt, first, second, block)?;
     }
+    Ok(())
 }
 
 // All 32, the one past them, and how many are invalid.
-fn write_headers(first: u32, second: u32) {
-    text::write(b"headers ");
-    text::write_field(first as u64, 8);
-    text::write_field(second as u64, 8);
-    text::write(b"-> ");
-    write_letters(first, second);
-    text::write(b" ");
-    write_letter(first, second, 32);
-    text::write(b" ");
-    write_invalid(headers::invalid_count(first, second));
-    text::write(b"\n");
+fn write_headers(rt: &impl Print, first: u32, second: u32) -> io::Result<()> {
+    text::write(rt, b"headers ")?;
+    text::write_field(rt, first as u64, 8)?;
+    text::write_field(rt, second as u64, 8)?;
+    text::write(rt, b"-> ")?;
+    write_letters(rt, first, second)?;
+    text::write(rt, b" ")?;
+    write_letter(rt, first, second, 32)?;
+    text::write(rt, b" ")?;
+    write_invalid(rt, headers::invalid_count(first, second))?;
+    text::write(rt, b"\n")
 }
 
-pub(crate) fn write_values() {
-    write_value(0);
-    write_value(1);
-    write_value(2);
-    write_value(3);
-    write_value(4);
-    write_value(255);
+pub(crate) fn write_values(rt: &impl Print) -> io::Result<()> {
+    write_value(rt, 0)?;
+    write_value(rt, 1)?;
+    write_value(rt, 2)?;
+    write_value(rt, 3)?;
+    write_value(rt, 4)?;
+    write_value(rt, 255)
 }
 
-pub(crate) fn write_words() {
-    write_headers(0, 0);
-    write_headers(0xFFFF_FFFF, 0xFFFF_FFFF);
-    write_headers(0, 0xFFFF_FFFF);
-    write_headers(0xFFFF_FFFF, 0);
-    write_headers(0x8000_0001, 0x7FFF_FFFE);
-    write_headers(0x0001_0000, 0x0003_0000);
-    write_headers(0xAAAA_AAAA, 0x6666_6666);
-    write_headers(0x1234_5678, 0x9ABC_DEF0);
+pub(crate) fn write_words(rt: &impl Print) -> io::Result<()> {
+    write_headers(rt, 0, 0)?;
+    write_headers(rt, 0xFFFF_FFFF, 0xFFFF_FFFF)?;
+    write_headers(rt, 0, 0xFFFF_FFFF)?;
+    write_headers(rt, 0xFFFF_FFFF, 0)?;
+    write_headers(rt, 0x8000_0001, 0x7FFF_FFFE)?;
+    write_headers(rt, 0x0001_0000, 0x0003_0000)?;
+    write_headers(rt, 0xAAAA_AAAA, 0x6666_6666)?;
+    write_headers(rt, 0x1234_5678, 0x9ABC_DEF0)
 }

@@ -1,18 +1,22 @@
 // Tables of the standard row by row, sync words and headers, as the library computes them. The second program prints the same lines.
+#![tactic(auto)]
+
 mod headers;
 mod parities;
 mod scrambling;
 mod text;
 mod words;
 
-fn main() {
-    scrambling::write_table();
-    parities::write_crc12_blocks();
-    parities::write_crc3_blocks();
-    parities::write_fec_blocks();
-    parities::write_fec_multiblocks();
-    words::write_words();
-    words::write_invalid_headers();
-    headers::write_values();
-    headers::write_words();
+use std::io;
+
+fn main(rt: HostRuntime) -> io::Result<()> {
+    scrambling::write_table(&rt)?;
+    parities::write_crc12_blocks(&rt)?;
+    parities::write_crc3_blocks(&rt)?;
+    parities::write_fec_blocks(&rt)?;
+    parities::write_fec_multiblocks(&rt)?;
+    words::write_words(&rt)?;
+    words::write_invalid_headers(&rt)?;
+    headers::write_values(&rt)?;
+    headers::write_words(&rt)
 }

@@ -5,6 +5,7 @@ use crate::text;
 use frame::modes::Sync;
 use frame::sync;
 use parity::{Crc3, Crc12, Fec};
+use std::io;
 
 // A multiblock that ends with blocks 0 to `row` of source data: zeros in front change no remainder, so its parity is that of the blocks alone. Blocks
 // past its end are not laid.
@@ -21,70 +22,89 @@ fn multiblock(row: usize) -> [u8; 256]
     octets
 }
 
-fn write_row(label: &[u8], row: usize, value: u32, printed: u64, digits: usize)
+fn write_row(
+    rt: &impl Print,
+    label: &[u8],
+    row: usize,
+    value: u32,
+    printed: u64,
+    digits: usize,
+) -> io::Result<()>
     requires { digits ≤ 16 }
 {
-    text::write(label);
-    text::write_hex(row as u64, 1);
-    text::write(b" ");
-    text::write_value(value as u64, digits, printed, digits);
+    text::write(rt, label)?;
+    text::write_hex(rt, row as u64, 1)?;
+    text::write(rt, b" ")?;
+    text::write_value(rt, value as u64, digits, printed, digits)
 }
 
-fn write_crc12(row: usize, printed: u64)
+fn write_crc12(rt: &impl Print, row: usize, printed: u64) -> io::Result<()>
     requires { row ≤ 3 }
 {
     let octets = multiblock(row);
-    write_row(b"table 52 block ", row, Crc12::of(&octets), printed, 3);
+    write_row(rt, b"table 52 block ", row, Crc12::of(&octets), printed, 3)
 }
 
-pub(crate) fn write_crc12_blocks() {
-    write_crc12(0, 0xD00);
-    write_crc12(1, 0x11C);
-    write_crc12(2, 0xFE4);
-    write_crc12(3, 0x5FE);
+pub(crate) fn write_crc12_blocks(rt: &impl Print) -> io::Result<()> {
+    write_crc12(rt, 0, 0xD00)?;
+    write_crc12(rt, 1, 0x11C)?;
+    write_crc12(rt, 2, 0xFE4)?;
+    write_crc12(rt, 3, 0x5FE)
 }
 
 // Of the parities of a multiblock's four groups that of the last, which has the blocks; it goes with the next sync word (request 5).
-fn write_crc3(row: usize, printed: u64)
+fn write_crc3(rt: &impl Print, row: usize, printed: u64) -> io::Result<()>
     requires { row ≤ 3 }
 {
     let octets = multiblock(row);
     let parts = sync::split(Sync::Crc3, Crc3::of(&octets));
-    write_row(b"table 53 block ", row, parts.before, printed, 1);
+    write_row(rt, b"table 53 block ", row, parts.before, printed, 1)
 }
 
-pub(crate) fn write_crc3_blocks() {
-    write_crc3(0, 0b011);
-    write_crc3(1, 0b111);
-    write_crc3(2, 0b010);
-    write_crc3(3, 0b001);
+pub(crate) fn write_crc3_blocks(rt: &impl Print) -> io::Result<()> {
+    write_crc3(rt, 0, 0b011)?;
+    write_crc3(rt, 1, 0b111)?;
+    write_crc3(rt, 2, 0b010)?;
+    write_crc3(rt, 3, 0b001)
 }
 
-fn write_fec(row: usize, printed: u64)
+fn write_fec(rt: &impl Print, row: usize, printed: u64) -> io::Result<()>
     requires { row ≤ 3 }
 {
     let octets = multiblock(row);
-    write_row(b"table 54 block ", row, Fec::of(&octets), printed, 7);
+    write_row(rt, b"table 54 block ", row, Fec::of(&octets), printed, 7)
 }
 
-pub(crate) fn write_fec_blocks() {
-    write_fec(0, 0x22A43C3);
-    write_fec(1, 0x05DFF66);
-    write_fec(2, 0x07171AB);
-    write_fec(3, 0x01957FD);
+pub(crate) fn write_fec_blocks(rt: &impl Print) -> io::Result<()> {
+    write_fec(rt, 0, 0x22A43C3)?;
+    write_fec(rt, 1, 0x05DFF66)?;
+    write_fec(rt, 2, 0x07171AB)?;
+    write_fec(rt, 3, 0x01957FD)
 }
 
-fn write_fec_multiblock(row: usize, octets: &[u8], printed: u64) {
-    write_row(b"table 55 multiblock ", row, Fec::of(octets), printed, 7);
+fn write_fec_multiblock(
+    rt: &impl Print,
+    row: usize,
+    octets: &[u8],
+    printed: u64,
+) -> io::Result<()> {
+    write_row(
+        rt,
+        b"table 55 multiblock ",
+        row,
+        Fec::of(octets),
+        printed,
+        7,
+    )
 }
 
 // The first bit alone, every bit, the last bit alone.
-pub(crate) fn write_fec_multiblocks() {
+pub(crate) fn write_fec_multiblocks(rt: &impl Print) -> io::Result<()> {
     let mut octets = [0u8; 256];
     octets[0] = 0x80;
-    write_fec_multiblock(0, &octets[..], 0x235011A);
-    write_fec_multiblock(1, &[255u8; 256], 0x3C7FFE3);
+    write_fec_multiblock(rt, 0, &octets[..], 0x235011A)?;
+    write_fec_multiblock(rt, 1, &[255u8; 256], 0x3C7FFE3)?;
     octets[0] = 0;
     octets[255] = 1;
-    write_fec_multiblock(2, &octets[..], 0x0220211);
+    write_fec_multiblock(rt, 2, &octets[..], 0x0220211)
 }
