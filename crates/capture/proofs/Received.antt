@@ -39,7 +39,7 @@ pub released-are : (R : Row) (lane : List ℕ) → length (releases_of R lane) �
 unfolding releases_of
 released-are R lane = all_but_one R (bit_at lane) (received_in R lane)
 
-module _ (mode : ℕ) (lane : List ℕ) (is_Known : known mode ≡ true) (whole : length lane % lane_octets (row mode).gap ≡ 0)
+module _ (mode : ℕ) (lane : List ℕ) (is_known : known mode ≡ true) (whole : length lane % lane_octets (row mode).gap ≡ 0)
     (short : length lane ≤ lane_octets (row mode).gap * (row mode).most) (o s c p q i o' s' c' p' q' i' : List ℕ) (state : Receiver) (r : Received)
     (e : kept r o' s' c' p' q' i' ≡ entry mode state lane o s c p q i) (es : state ≡ fresh)
     (lo : length o ≡ 256 * most_of_all) (ls : length s ≡ most_of_all) (lc : length c ≡ most_of_all) (lp : length p ≡ most_of_all) (lq : length q ≡ most_of_all) (li : length i ≡ most_of_all) where
@@ -50,7 +50,7 @@ module _ (mode : ℕ) (lane : List ℕ) (is_Known : known mode ≡ true) (whole 
   is-run =
       e
       ∙ ap (λ (x : Receiver). entry mode x lane o s c p q i) es
-      ∙ all-received mode lane o s c p q i is_Known whole (received-few mode lane short)
+      ∙ all-received mode lane o s c p q i is_known whole (received-few mode lane short)
       (record { octets-fit = omega (arith, within); statuses-fit = omega (arith, within); commands-fit = omega (arith, within); places-fit = omega (arith, within); patterns-fit = omega (arith, within); invalid-fit = omega (arith, within) })
 
   number : r.count ≡ length (releases_of (row mode) lane)

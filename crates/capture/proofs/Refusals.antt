@@ -127,13 +127,13 @@ pub accepted : (capture : List ℕ) → refusal_of capture ≡ 0 → Accepted ca
 unfolding refusal_of
 accepted capture z =
     let formed = formed-length capture (not-false _ (not-given 8 (refusals capture) tt z)) in
-    let is_Known = not-false _ (not-given 1 (refusals capture) tt z) in
+    let is_known = not-false _ (not-given 1 (refusals capture) tt z) in
     record {
       long = formed.0;
-      mode = is_Known;
+      mode = is_known;
       extent = not-false _ (not-given 2 (refusals capture) tt z);
       whole = eqb-true _ 0 (not-false _ (not-given 4 (refusals capture) tt z));
-      short = omega (arith, lane-length capture, formed.1, longest-known (mode_of capture) is_Known);
+      short = omega (arith, lane-length capture, formed.1, longest-known (mode_of capture) is_known);
     }
 
 -- ---- more lines behind the table

@@ -34,7 +34,7 @@ use Rattle.demands.specs.Calls.{Sending, user_octets, commands_given, AllSent, l
 use Rattle.demands.specs.Promises.{headers_from}
 use Rattle.demands.proofs.Sent.{one_lane}
 
-module _ (mode E : ℕ) (is_Known : known mode ≡ true) (crc : repairs (row mode).sync ≡ false) (s : Sender) (user commands : List ℕ)
+module _ (mode E : ℕ) (is_known : known mode ≡ true) (crc : repairs (row mode).sync ≡ false) (s : Sender) (user commands : List ℕ)
     (given : 256 * length commands ≤ length user) (fits : Fits (row mode) E s) (some : 1 ≤ E) (few : E ≤ 256) (p : ℕ) where
   abbrev R : Row
   R = row mode
@@ -96,7 +96,7 @@ pub along-lane : (mode E : ℕ) → known mode ≡ true → repairs (row mode).s
     → (P : ℕ → Lock → Type 0) → ((q : ℕ) (headers : ℕ → ℕ) → extent_fits E ≡ true → PilotHeaders E q headers → (n : ℕ) → P n (state_after mode E headers n))
     → (p n : ℕ) → 1 ≤ n → block_width (row mode).gap * (p + n) ≤ 8 * length (lane_sent mode E s calls)
     → P n (state_after mode E (headers_from (row mode).gap (lane_sent mode E s calls) p) n)
-along-lane mode E is_Known crc s calls h P holds p n more inside =
+along-lane mode E is_known crc s calls h P holds p n more inside =
     let one = one_lane mode E s calls h in
     let user = user_octets calls in
     let commands = commands_given calls in
@@ -108,4 +108,4 @@ along-lane mode E is_Known crc s calls h P holds p n more inside =
     let within : p + n ≤ 32 * length commands = le_of_mul-le-mul_left (subst (λ (x : ℕ). w * (p + n) ≤ x) all inside) (width_some (row mode).gap) in
     let ready = one.ready (omega arith) in
     subst (λ (x : List ℕ). P n (state_after mode E (headers_from (row mode).gap x p) n)) (sym one.made)
-    (along mode E is_Known crc s user commands (omega (arith, one.given)) ready.0 ready.1 ready.2 p P holds n within)
+    (along mode E is_known crc s user commands (omega (arith, one.given)) ready.0 ready.1 ready.2 p P holds n within)

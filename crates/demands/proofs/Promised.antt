@@ -299,15 +299,15 @@ pub one-set-only : OneSet
 one-set-only = one_set
 
 pub in-time : LocksInTime
-in-time mode E is_Known crc s calls sent p n inside h =
-    along-lane mode E is_Known crc s calls sent (λ (n : ℕ) (x : Lock). 95 + 128 * E ≤ n → Held x)
-    (λ q headers extent lane. locked-in-time mode E q headers is_Known extent lane) p n (omega arith) inside (omega arith)
+in-time mode E is_known crc s calls sent p n inside h =
+    along-lane mode E is_known crc s calls sent (λ (n : ℕ) (x : Lock). 95 + 128 * E ≤ n → Held x)
+    (λ q headers extent lane. locked-in-time mode E q headers is_known extent lane) p n (omega arith) inside (omega arith)
 
 pub none_kept : NothingKept
-none_kept mode E is_Known crc s calls sent p zero inside = ap (λ (x : Lock). x.extended.kept) (state-none mode E (headers_from (row mode).gap (lane_sent mode E s calls) p))
-none_kept mode E is_Known crc s calls sent p (suc n) inside =
-    along-lane mode E is_Known crc s calls sent (λ (n : ℕ) (x : Lock). x.extended.kept ≡ 0)
-    (λ q headers extent lane. nothing-kept mode E q headers is_Known extent lane) p (suc n) (omega arith) inside
+none_kept mode E is_known crc s calls sent p zero inside = ap (λ (x : Lock). x.extended.kept) (state-none mode E (headers_from (row mode).gap (lane_sent mode E s calls) p))
+none_kept mode E is_known crc s calls sent p (suc n) inside =
+    along-lane mode E is_known crc s calls sent (λ (n : ℕ) (x : Lock). x.extended.kept ≡ 0)
+    (λ q headers extent lane. nothing-kept mode E q headers is_known extent lane) p (suc n) (omega arith) inside
 
 pub locks-go-on : LocksGoOn
 locks-go-on mode E lock header next z = goes_on mode E lock header z next

@@ -28,7 +28,7 @@ module _ (mode : ℕ) (lane o st c p q i : List ℕ) where
   abbrev L : ℕ
   L = lane_octets (row mode).gap
 
-  module _ (is_Known : known mode ≡ true) (whole : length lane % L ≡ 0) (few : length lane / L ≤ (row mode).most)
+  module _ (is_known : known mode ≡ true) (whole : length lane % L ≡ 0) (few : length lane / L ≤ (row mode).most)
       (room : Room (length lane / L - 1) (length o) (length st) (length c) (length p) (length q) (length i)) where
     not-refused : refusal_of mode fresh (length lane) (length o) (length st) (length c) (length p) (length q) (length i) ≡ 0
     unfolding releases refusal_of
@@ -39,7 +39,7 @@ module _ (mode : ℕ) (lane o st c p q i : List ℕ) where
         ∙ passed 5 _ _ (le-ltb (row mode).most (length lane / L) few)
         ∙ passed 4 _ _ (ap not (eq-eqb (length lane % L) 0 whole))
         ∙ passed 3 _ _ (ap not (fresh-accepted (row mode).sync))
-        ∙ passed 1 _ _ (ap not is_Known))
+        ∙ passed 1 _ _ (ap not is_known))
 
     pub all-received : entry mode fresh lane o st c p q i ≡ laid_out (totalled (run (row mode) (bit_at lane) fresh (length lane / L))) o st c p q i
     unfolding entry

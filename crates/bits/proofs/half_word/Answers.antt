@@ -6,4 +6,4 @@ pub returns : goal.returns
 returns c =
     let a = c.args in
     simp (c.wide-4.ensures, c.wide-3.ensures, c.wide-2.ensures, c.wide.ensures)
-    (load-half a.octets.now (λ i. omega (arith, c.shared_slice_known-1.given i)) a.at)
+    (load-half a.octets.now (λ i. omega (arith, c.type_inv.octets i)) a.at)

@@ -12,7 +12,7 @@ pub loop-i-preserved : goal.loop-i-preserved
 loop-i-preserved c =
     let l = c.loop-i in
     let a = c.args in
-    (omega arith, gather a.octets.now (λ i. omega (arith, c.shared_slice_known-1.given i)) a.at l.i l.word c.wide.result (omega arith) l.invariant.1 c.wide.ensures)
+    (omega arith, gather a.octets.now (λ i. omega (arith, c.type_inv.octets i)) a.at l.i l.word c.wide.result (omega arith) l.invariant.1 c.wide.ensures)
 
 pub returns : goal.returns
 returns c =

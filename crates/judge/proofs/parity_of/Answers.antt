@@ -10,11 +10,11 @@ use Rattle.judge.proofs.parity_of.Goals as goal
 
 pub returns-in-Crc12-clause-value : goal.returns-in-Crc12-clause-value
 returns-in-Crc12-clause-value c = let a = c.args in
-    let long = c.requires in c.of.ensures ∙ sym (one-group crc12 refl a.octets.now (omega arith)) ∙ ap (λ (S : Sync). multiblock_parity (code S) (bit_at a.octets.now)) (sym c.in-Crc12.is)
+    c.of.ensures ∙ sym (one-group crc12 refl a.octets.now (omega arith)) ∙ ap (λ (S : Sync). multiblock_parity (code S) (bit_at a.octets.now)) (sym c.in-Crc12.is)
 
 pub returns-in-Fec-clause-value : goal.returns-in-Fec-clause-value
 returns-in-Fec-clause-value c = let a = c.args in
-    let long = c.requires in c.of-in-Fec.ensures ∙ sym (one-group fec refl a.octets.now (omega arith)) ∙ ap (λ (S : Sync). multiblock_parity (code S) (bit_at a.octets.now)) (sym c.in-Fec.is)
+    c.of-in-Fec.ensures ∙ sym (one-group fec refl a.octets.now (omega arith)) ∙ ap (λ (S : Sync). multiblock_parity (code S) (bit_at a.octets.now)) (sym c.in-Fec.is)
 
 pub returns-in-Command-clause-value : goal.returns-in-Command-clause-value
 returns-in-Command-clause-value c = let a = c.args in sym (ap (λ (S : Sync). multiblock_parity (code S) (bit_at a.octets.now)) c.in-Command.is ∙ no-group no_code refl (bit_at a.octets.now))

@@ -1,9 +1,6 @@
 use Prim.Native.Nat.{ℕ}
 use mathlib.Core.Path.{ap, ◌∙◌}
-use mathlib.Core.List.{List}
 use lib.Bits.{bit_xor}
-use Rattle.bits.specs.Order.{bit_at, number, laid_at}
-use Rattle.scrambler.specs.Scrambling.{descrambled}
 use Rattle.judge.specs.Judge.{verdict_of, judged}
 use Rattle.judge.proofs.Verdicts.{small}
 use Rattle.judge.proofs.release.Goals as goal
@@ -21,8 +18,5 @@ unfolding judged
 returns-clause-verdict_value c = let a = c.args in
     let p = c.parity_of in
     let v = c.verdict_of-verdict in
-    let m = c.mend-whole in
-    let d = c.descramble_multiblock in
     let own = v.ensures ∙ ap (λ (x : ℕ). verdict_of a.sync (bit_xor x a.parity)) p.ensures.value in
-    let history-is = c.history_of-after.ensures ∙ ap (λ (x : List ℕ). number (bit_at x) 1990 58) m.ensures in
-    let out-is = d.ensures ∙ ap (λ (x : List ℕ). laid_at (descrambled x a.history 256) 0 a.out.now) m.ensures in own
+    own

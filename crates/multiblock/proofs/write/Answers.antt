@@ -18,7 +18,6 @@ kept false register = refl
 
 pub returns-then-gap-eq0-clause-value : goal.returns-then-gap-eq0-clause-value
 returns-then-gap-eq0-clause-value c = let a = c.args in
-    let octets = octets_of (word_bit a.blocks.now) 256 in
     rw (without a.gap c.if-gap-eq0.true) (kept (leb (lane_octets 0) (length a.lane.now)) a.register)
 
 pub returns-then-gap-eq0-clause-lane_after : goal.returns-then-gap-eq0-clause-lane_after

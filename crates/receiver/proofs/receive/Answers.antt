@@ -36,12 +36,9 @@ overflow_sub-n c =
 
 pub run-requires-clause-gap_value : goal.run-requires-clause-gap_value
 run-requires-clause-gap_value c = let a = c.args in
-    let f = c.refusal_of-refusal in
-    let b = c.begin-begun in
     let own = c.row_of-row.ensures in
     let numbers = c.numbers_of-numbers.ensures in
-    let size = ap (λ (x : Numbers). x.octets) (numbers ∙ ap numbers_of own) in
-    let given = ready a.mode a.state a.lane.now a.octets.now a.statuses.now a.commands.now a.places.now a.patterns.now a.invalid.now f.result f.ensures c.if-refusal-ne0.false b.result (b.ensures.value ∙ ap (λ (x : Row). begun_by x a.state a.lane.now) own) _ size in (shaped a.mode _ own, ap (λ (x : Numbers). x.octets) numbers)
+    (shaped a.mode _ own, ap (λ (x : Numbers). x.octets) numbers)
 
 pub run-requires-clause-waiting_value : goal.run-requires-clause-waiting_value
 run-requires-clause-waiting_value c = let a = c.args in

@@ -9,4 +9,4 @@ pub returns : goal.returns
 returns c =
     let a = c.args in
     ap (λ (x : ℕ). bit_xor x (a.over / 2 ^ (8 * (7 - a.k)) % 256)) c.index.ensures
-    ∙ index-laid a.octets.now a.at a.over a.k (c.shared_slice_known-2-1.given (a.at + a.k)).fits (search rules)
+    ∙ index-laid a.octets.now a.at a.over a.k (c.type_inv.octets (a.at + a.k)).fits (search rules)

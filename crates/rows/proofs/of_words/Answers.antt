@@ -24,7 +24,7 @@ pub loop-i-preserved : goal.loop-i-preserved
 loop-i-preserved c =
     let l = c.loop-i in
     let words = c.args.words.now in
-    (search rules, l.invariant.1, c.next_word-s.ensures ∙ word_next 12 0x30F words l.i l.s (c.shared_slice_known-in-loop-i-1.given l.i).fits l.invariant.2)
+    (search rules, l.invariant.1, c.next_word-s.ensures ∙ word_next 12 0x30F words l.i l.s (c.type_inv.words l.i).fits l.invariant.2)
 
 pub returns : goal.returns
 returns c =

@@ -25,7 +25,7 @@ loop-i-preserved c =
     let stream = word_bit a.blocks.now in
     let bits = word_bit-lt a.blocks.now in
     let own : block.result ≡ number (plain l.past (digit 64 word)) 0 64 = block.ensures in
-    let at : word ≡ number stream (64 * l.i) 64 = sym (number_word a.blocks.now l.i (omega (arith, c.shared_slice_known-in-loop-i-1.given l.i))) in (
+    let at : word ≡ number stream (64 * l.i) 64 = sym (number_word a.blocks.now l.i (omega (arith, c.type_inv.blocks l.i))) in (
       omega arith,
       c.history_after-past-in-loop-i.ensures ∙ next-come stream bits a.history l.i word l.past at,
       c.put_word.ensures

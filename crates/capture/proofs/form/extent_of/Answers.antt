@@ -14,5 +14,5 @@ two-octets capture a b first second h l = omega (arith, first, second, number-ne
 pub returns : goal.returns
 returns c =
     let capture = c.args.capture.now in
-    let octet = c.shared_slice_known-1.given in
+    let octet = c.type_inv.capture in
     two-octets capture _ _ c.octet_at.ensures c.octet_at-2.ensures (omega (arith, octet 5)) (omega (arith, octet 6))

@@ -17,7 +17,7 @@ pub receive-count-requires-clause-mode_value : goal.receive-count-requires-claus
 receive-count-requires-clause-mode_value c = let pre = c.requires in (known_some c.args.mode pre.0, pre.1, pre.2)
 
 pub receive-count-requires-clause-statuses_len : goal.receive-count-requires-clause-statuses_len
-receive-count-requires-clause-statuses_len c = let pre = c.requires in (length-replicate {A = ℕ} _ 0 ∙ sym most-is, length-replicate {A = ℕ} _ 0 ∙ sym most-is, length-replicate {A = ℕ} _ 0 ∙ sym most-is, length-replicate {A = ℕ} _ 0 ∙ sym most-is)
+receive-count-requires-clause-statuses_len c = (length-replicate {A = ℕ} _ 0 ∙ sym most-is, length-replicate {A = ℕ} _ 0 ∙ sym most-is, length-replicate {A = ℕ} _ 0 ∙ sym most-is, length-replicate {A = ℕ} _ 0 ∙ sym most-is)
 
 pub nonzero_div-received : goal.nonzero_div-received
 nonzero_div-received c = omega (arith, ap (λ (N : Numbers). N.octets) c.numbers_of-numbers.ensures, octets-some c.row_of.result.gap)

@@ -7,7 +7,7 @@ use Rattle.parity.proofs.group.word_of.Goals as goal
 pub returns-then-i-words : goal.returns-then-i-words
 returns-then-i-words c =
     let a = c.args in
-    sym (number_word a.words.now a.i (c.shared_slice_known-1.given a.i).fits)
+    sym (number_word a.words.now a.i (c.type_inv.words a.i).fits)
 
 pub returns-else-i-words : goal.returns-else-i-words
 returns-else-i-words c =

@@ -22,4 +22,4 @@ pub loop-i-preserved : goal.loop-i-preserved
 loop-i-preserved c =
     let l = c.loop-i in
     let words = c.args.words.now in
-    (search rules, l.invariant.1, c.fec_word-s.ensures ∙ word_next 26 0x0220211 words l.i l.s (c.shared_slice_known-in-loop-i-1.given l.i).fits l.invariant.2)
+    (search rules, l.invariant.1, c.fec_word-s.ensures ∙ word_next 26 0x0220211 words l.i l.s (c.type_inv.words l.i).fits l.invariant.2)

@@ -10,5 +10,4 @@ returns-then-row-eq0 c = (ap length (without-gaps c.args.row.gap c.if-row-eq0.tr
 pub returns : goal.returns
 returns c =
     let is = with-gaps c.args.row c.if-row-eq0.false c.numbers_of-numbers.ensures in
-    let w = c.width.ensures in
     (omega (arith, ap length is), omega arith)

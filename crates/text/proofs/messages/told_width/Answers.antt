@@ -6,7 +6,4 @@ pub returns : goal.returns
 returns c =
     let a = c.args in
     let total = told-length a.k a.name.now a.number a.words.now in
-    let x = c.width.ensures in
-    let y = c.width-2.ensures in
-    let z = c.words_width.ensures in
     (omega arith, omega arith)
