@@ -1,0 +1,2 @@
+-- What holds of the numbers of refusal.
+pub mod Numbers

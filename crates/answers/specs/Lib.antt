@@ -1,0 +1,2 @@
+-- What calls answer, as numbers.
+pub mod Numbers
