@@ -2,15 +2,15 @@
 -- Assumes nothing.
 use mathlib.Core.Path.{◌≡◌, refl, sym, ap, ap₂, ◌∙◌}
 use mathlib.Core.List.{List, [], ◌∷◌, ◌++◌, append_assoc, append-nil}
-use Prim.Native.Nat.{ℕ, suc, ◌+◌, ◌-◌, ◌*◌, ◌/◌, ◌%◌, ◌^◌, ◌≤◌, ◌<◌}
+use Prim.Native.Nat.{ℕ, ◌+◌, ◌-◌, ◌*◌, ◌≤◌, ◌<◌}
 use native.Mathlib.Nat.{zero-add, div-one}
 use native.Mathlib.Numerals.{add-one}
 use native.Mathlib.Omega.{arith}
 use lib.Dec.{leb, leb→le, le→leb, not_T, lit≤}
 use lib.ListN.{length, set, take, drop, length-append, length-drop, drop_of_length-le}
-use lib.Seq.{append_snoc, set_split, sets-eq, length-take-le, take_at, drop_at, take_all, drop-length, drop-append-add, drop-drop, take-append_seam}
-use lib.Pow.{shr-shr}
+use lib.Seq.{append_snoc, set_split, length-take-le, take_at, drop_at, take_all, drop-length, drop-append-add, drop-drop, take-append_seam}
 use borrow.Rule.Slice.PartMut.{put_mid, mid_of, post_of, Post-is}
+use Rattle.std.specs.Int.{w64, to_be_bytes}
 use Rattle.bits.specs.Order.{list_from, number, digit, octets_of, laid, laid_at}
 use Rattle.bits.proofs.Choice.{pick_true, pick-false}
 use Rattle.bits.proofs.Numbers.{number-digit, number-ext, digit-number}
@@ -49,24 +49,20 @@ unfolding laid_at
 too_short new at old h =
     pick-false (leb (at + length new) (length old)) _ _ (not_T (leb (at + length new) (length old)) (λ t. let q = leb→le (at + length new) (length old) t in omega arith))
 
--- ---- octets stored one by one
+-- ---- octets stored
 
-half-octets : (word : ℕ) → octets_of (digit 32 word) 4 ≡ word / 2 ^ 24 % 256 ∷ word / 2 ^ 16 % 256 ∷ word / 2 ^ 8 % 256 ∷ word % 256 ∷ []
+word-octets : (word : ℕ) → to_be_bytes w64 word ≡ octets_of (digit 64 word) 8
 unfolding octets_of list_from
-half-octets word =
-    rw (number-digit 32 word 0 8 (lit≤ tt), number-digit 32 word 8 8 (lit≤ tt), number-digit 32 word 16 8 (lit≤ tt), number-digit 32 word 24 8 (lit≤ tt), div-one)
+word-octets word =
+    rw (number-digit 64 word 0 8 (lit≤ tt), number-digit 64 word 8 8 (lit≤ tt), number-digit 64 word 16 8 (lit≤ tt), number-digit 64 word 24 8 (lit≤ tt), number-digit 64 word 32 8 (lit≤ tt), number-digit 64 word 40 8 (lit≤ tt), number-digit 64 word 48 8 (lit≤ tt), number-digit 64 word 56 8 (lit≤ tt), div-one)
 
--- four octets, as the code writes them out
-pub store-half : (old : List ℕ) (at word : ℕ) → at + 4 ≤ length old
-    → set (set (set (set old at (word / 2 ^ 24 % 256)) (at + 1) (word / 2 ^ 16 % 256)) (at + 2) (word / 2 ^ 8 % 256)) (at + 3) (word % 256)
-    ≡ laid_at (octets_of (digit 32 word) 4) at old
-store-half old at word h =
-    let e1 : at + 1 ≡ suc at = omega arith in
-    let e2 : at + 2 ≡ suc (suc at) = omega arith in
-    let e3 : at + 3 ≡ suc (suc (suc at)) = omega arith in
-    rw (e1, e2, e3)
-    (sets-eq (word / 2 ^ 24 % 256 ∷ word / 2 ^ 16 % 256 ∷ word / 2 ^ 8 % 256 ∷ word % 256 ∷ []) old at h
-    ∙ sym (ap (λ (x : List ℕ). laid_at x at old) (half-octets word) ∙ fits _ at old h))
+-- the octets of a word, copied over the eight from a place on
+pub store : (word at : ℕ) (old part : List ℕ) → at + 8 ≤ length old → part ≡ to_be_bytes w64 word → put_mid at (at + 8 - at) old part ≡ laid_at (octets_of (digit 64 word) 8) at old
+store word at old part h e =
+    let new = octets_of (digit 64 word) 8 in
+    let n : length new ≡ 8 = length-octets_of (digit 64 word) 8 in
+    ap₂ (λ (x y : List ℕ). take at old ++ (x ++ y)) (e ∙ word-octets word) (Post-is at (at + 8) old (omega arith))
+    ∙ sym (fits new at old (omega arith) ∙ ap (λ (x : ℕ). take at old ++ new ++ drop (at + x) old) n ∙ append_assoc (take at old) new (drop (at + 8) old))
 
 -- one octet stored
 laid-octet : (at octet : ℕ) (old : List ℕ) → at < length old → set old at octet ≡ laid_at (octet ∷ []) at old
@@ -86,25 +82,6 @@ laid_at-join a b at old h =
     ∙ fits b (at + length a) (front ++ rest) (omega arith)
     ∙ ap₂ (λ (x y : List ℕ). x ++ b ++ y) (take_at front rest (at + length a) lf) (ap (λ (x : ℕ). drop (x + length b) (front ++ rest)) (sym lf) ∙ drop-append-add front rest (length b) ∙ drop-drop (length b) (at + length a) old)
     ∙ sym (fits (a ++ b) at old (omega (arith, length-append a b)) ∙ ap (λ (x : ℕ). take at old ++ (a ++ b) ++ drop x old) {x = at + length (a ++ b)} {y = at + length a + length b} (omega (arith, length-append a b)) ∙ simp append_assoc)
-
--- a word's halves are the word
-halves : (word : ℕ) → octets_of (digit 32 (word / 2 ^ 32)) 4 ++ octets_of (digit 32 word) 4 ≡ octets_of (digit 64 word) 8
-unfolding octets_of digit
-halves word =
-    let upper = list_ext (λ j. number (digit 32 (word / 2 ^ 32)) (8 * j) 8) (λ j. number (digit 64 word) (8 * j) 8) 0 0 4
-    (λ j q. number-ext (digit 32 (word / 2 ^ 32)) (digit 64 word) (8 * (0 + j)) (8 * (0 + j)) 8
-    (λ k l. ap (λ (x : ℕ). x % 2) (shr-shr word 32 (31 - (8 * (0 + j) + k)) ∙ ap (λ (x : ℕ). word / 2 ^ x) {x = 32 + (31 - (8 * (0 + j) + k))} {y = 63 - (8 * (0 + j) + k)} (omega arith)))) in
-    let lower = list_ext (λ j. number (digit 32 word) (8 * j) 8) (λ j. number (digit 64 word) (8 * j) 8) 0 4 4
-    (λ j q. number-ext (digit 32 word) (digit 64 word) (8 * (0 + j)) (8 * (4 + j)) 8 (λ k l. ap (λ (x : ℕ). word / 2 ^ x % 2) {x = 31 - (8 * (0 + j) + k)} {y = 63 - (8 * (4 + j) + k)} (omega arith))) in
-    ap₂ (λ (x y : List ℕ). x ++ y) upper lower ∙ sym (list-append (λ j. number (digit 64 word) (8 * j) 8) 0 4 4)
-
-pub store : (word at : ℕ) (old : List ℕ) → at + 8 ≤ length old → laid_at (octets_of (digit 32 word) 4) (at + 4) (laid_at (octets_of (digit 32 (word / 2 ^ 32)) 4) at old) ≡ laid_at (octets_of (digit 64 word) 8) at old
-store word at old h =
-    let upper = octets_of (digit 32 (word / 2 ^ 32)) 4 in
-    let lower = octets_of (digit 32 word) 4 in
-    let lu = length-octets_of (digit 32 (word / 2 ^ 32)) 4 in
-    let ll = length-octets_of (digit 32 word) 4 in
-    ap (λ (x : ℕ). laid_at lower (at + x) (laid_at upper at old)) (sym lu) ∙ laid_at-join upper lower at old (omega arith) ∙ ap (λ (x : List ℕ). laid_at x at old) (halves word)
 
 -- what is laid from the start
 pub laid-start : (new old : List ℕ) → length new ≤ length old → laid_at new 0 old ≡ laid new old

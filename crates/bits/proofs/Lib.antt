@@ -13,3 +13,4 @@ pub mod WordLists
 pub mod Writing
 pub mod Refusals
 pub mod Bounds
+pub mod Blocks

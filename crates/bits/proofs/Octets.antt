@@ -4,7 +4,7 @@ use mathlib.Core.List.{List, ◌∷◌, ◌++◌}
 use Prim.Native.Nat.{ℕ, zero, suc, ◌+◌, ◌-◌, ◌*◌, ◌/◌, ◌%◌, ◌^◌, ◌≤◌, ◌<◌}
 use native.Mathlib.Nat.{zero-add}
 use native.Mathlib.Omega.{arith}
-use lib.ListN.{length, get_or, take, drop, replicate, get_or-append}
+use lib.ListN.{length, get_or, take, drop, replicate, get_or-append, length-drop}
 use lib.Seq.{get_or-take, get_or-drop, length-take-le, ext_get_or}
 use Rattle.bits.specs.Order.{bit_at, list_from, bits_of, number, digit, octets_of}
 use Rattle.bits.proofs.Numbers.{digit-number, number-ext, number-zeros, number-octet, bit-octet}
@@ -51,6 +51,12 @@ pub bit-drop : (a : ℕ) (s : List ℕ) (k : ℕ) → bit_at (drop a s) k ≡ bi
 unfolding bit_at
 bit-drop a s k =
     ap₂ (λ (x y : ℕ). x / 2 ^ (7 - y) % 2) (get_or-drop a s (k / 8) 0 ∙ ap (λ (x : ℕ). get_or s x 0) {x = a + k / 8} {y = (8 * a + k) / 8} (omega arith)) (omega arith)
+
+pub bits-drop : (a : ℕ) (s : List ℕ) → bits_of (drop a s) ≡ bits_from s a
+unfolding bits_of
+bits-drop a s =
+    ap (λ (n : ℕ). list_from (bit_at (drop a s)) 0 (8 * n)) (length-drop a s)
+    ∙ list_ext (bit_at (drop a s)) (bit_at s) 0 (8 * a) (8 * (length s - a)) (λ j _. bit-drop a s (0 + j) ∙ ap (bit_at s) (omega arith))
 
 -- past the first octet, the bits are those of the rest
 pub after_first : (v : ℕ) (octets : List ℕ) → bits_from (v ∷ octets) 1 ≡ bits_of octets

@@ -13,10 +13,6 @@ use Rattle.bits.proofs.Tests.{left, right}
 
 -- ---- line by line, as code goes through a table
 
--- what a negated test of the code says of a line's
-pub line : {b t u : Bool} → b ≡ t → not b ≡ u → not t ≡ u
-line e q = sym (ap not e) ∙ q
-
 pub given : (number : ℕ) (test : Bool) (lines : List Line) → test ≡ true → number ≡ refusal_by (number when test ∷ lines)
 unfolding refusal_by
 given number test lines e = rw e refl

@@ -21,12 +21,14 @@ module _ (words : List ℕ) where
   unfolding word_bit
   word_bit-word i j h = ap₂ (λ (x y : ℕ). digit 64 (get_or words x 0) y) (omega arith) (omega arith)
 
-  pub number_word : (i : ℕ) → get_or words i 0 < 2 ^ 64 → number (word_bit words) (64 * i) 64 ≡ get_or words i 0
+  pub number_low : (i : ℕ) → number (word_bit words) (64 * i) 64 ≡ get_or words i 0 % 2 ^ 64
   unfolding digit
-  number_word i h =
+  number_low i =
       number-ext (word_bit words) (λ j. get_or words i 0 / 2 ^ (64 - 1 - j) % 2) (64 * i) 0 64 (λ j q. word_bit-word i j q ∙ ap (digit 64 (get_or words i 0)) (sym (zero-add j)))
       ∙ number-whole 64 (get_or words i 0)
-      ∙ mod-eq_of_lt h
+
+  pub number_word : (i : ℕ) → get_or words i 0 < 2 ^ 64 → number (word_bit words) (64 * i) 64 ≡ get_or words i 0
+  number_word i h = number_low i ∙ mod-eq_of_lt h
 
   -- the octets that words hold
   pub length-octets_in : length (octets_in words) ≡ 8 * length words

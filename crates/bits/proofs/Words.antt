@@ -1,15 +1,15 @@
 -- Octets put together by shifts. Assumes nothing.
 use mathlib.Core.Path.{◌≡◌, sym, ap, ap₂, ◌∙◌}
-use mathlib.Core.List.{List}
+use mathlib.Core.List.{List, [], ◌∷◌}
 use Prim.Native.Nat.{ℕ, ◌+◌, ◌-◌, ◌*◌, ◌%◌, ◌^◌, ◌≤◌, ◌<◌}
 use native.Mathlib.Nat.{add-zero, mul_assoc, add-mul, mul-mod_left}
 use native.Mathlib.Omega.{arith}
 use lib.ListN.{length, get_or}
 use lib.Pow.{pow-add, mod-pow-add, shl_exact, shl_lt, shl-shr}
-use lib.Dec.{lit≤}
 use lib.Bits.{bit_or, or_shifted}
+use Rattle.std.specs.Int.{w64, from_be_bytes}
 use Rattle.bits.specs.Order.{bit_at, number}
-use Rattle.bits.proofs.Numbers.{bit_at_lt, number-split, number_lt, number-octet, number-next, past_end}
+use Rattle.bits.proofs.Numbers.{number-split, number-octet, number-next, past_end}
 
 -- a shift left drops what leaves the word
 pub shift-left : (x t : ℕ) → t ≤ 64 → x * 2 ^ t % 2 ^ 64 ≡ x % 2 ^ (64 - t) * 2 ^ t
@@ -21,9 +21,6 @@ shift-left x t h =
 
 -- word | octet << s, laid below the m octets that are there
 module _ (octets : List ℕ) (octet-lt : (i : ℕ) → get_or octets i 0 < 256) (at : ℕ) where
-  first : get_or octets at 0 * 2 ^ 24 % 2 ^ 64 ≡ number (bit_at octets) (8 * at) 8 * 2 ^ 24
-  first = shl_exact 8 24 64 (octet-lt at) (lit≤ tt) ∙ ap (λ (x : ℕ). x * 2 ^ 24) (sym (number-octet octets at (octet-lt at)))
-
   lay : (m s word : ℕ) → 8 + s ≤ 64 → word ≡ number (bit_at octets) (8 * at) (8 * m) * 2 ^ (8 + s)
       → bit_or word (get_or octets (at + m) 0 * 2 ^ s % 2 ^ 64) ≡ number (bit_at octets) (8 * at) (8 * (m + 1)) * 2 ^ s
   lay m s word l e =
@@ -43,15 +40,6 @@ module _ (octets : List ℕ) (octet-lt : (i : ℕ) → get_or octets i 0 < 256) 
       ∙ lay i (56 - 8 * i) word (omega arith) (e ∙ ap (λ (x : ℕ). number (bit_at octets) (8 * at) (8 * i) * 2 ^ x) {x = 64 - 8 * i} {y = 8 + (56 - 8 * i)} (omega arith))
       ∙ ap (λ (x : ℕ). number (bit_at octets) (8 * at) (8 * (i + 1)) * 2 ^ x) {x = 56 - 8 * i} {y = 64 - 8 * (i + 1)} (omega arith)
 
-  -- four octets, as the code writes them out
-  pub load-half : bit_or (bit_or (bit_or (get_or octets at 0 * 2 ^ 24 % 2 ^ 64) (get_or octets (at + 1) 0 * 2 ^ 16 % 2 ^ 64)) (get_or octets (at + 2) 0 * 2 ^ 8 % 2 ^ 64)) (get_or octets (at + 3) 0) ≡ number (bit_at octets) (8 * at) 32
-  load-half =
-      let s1 = lay 1 16 _ (lit≤ tt) first in
-      let s2 = lay 2 8 _ (lit≤ tt) s1 in
-      ap (λ (x : ℕ). bit_or x (get_or octets (at + 3) 0)) s2
-      ∙ or_shifted (number (bit_at octets) (8 * at) 24) 8 (get_or octets (at + 3) 0) (octet-lt (at + 3))
-      ∙ sym (number-next octets at 3 (octet-lt (at + 3)))
-
 -- the octets to the end, where the rest of the word is past it
 pub gathered : (octets : List ℕ) (at i word : ℕ) → i ≤ 8 → length octets ≤ at + i → word ≡ number (bit_at octets) (8 * at) (8 * i) * 2 ^ (64 - 8 * i) → word ≡ number (bit_at octets) (8 * at) 64
 gathered octets at i word h end e =
@@ -62,10 +50,17 @@ gathered octets at i word h end e =
     ∙ ap (λ (x : ℕ). number f (8 * at) (8 * i) * 2 ^ (64 - 8 * i) + x) (ap (λ (x : ℕ). number f x (64 - 8 * i)) {x = 8 * at + 8 * i} {y = 8 * (at + i)} (omega arith) ∙ past_end octets (at + i) (64 - 8 * i) end)
     ∙ add-zero _)
 
--- the whole word, half by half
-pub load : (octets : List ℕ) (at : ℕ) → bit_or (number (bit_at octets) (8 * at) 32 * 2 ^ 32 % 2 ^ 64) (number (bit_at octets) (8 * (at + 4)) 32) ≡ number (bit_at octets) (8 * at) 64
-load octets at =
-    let f = bit_at octets in
-    ap₂ bit_or (shl_exact 32 32 64 (number_lt f (bit_at_lt octets) (8 * at) 32) (lit≤ tt)) (ap (λ (x : ℕ). number f x 32) {x = 8 * (at + 4)} {y = 8 * at + 32} (omega arith))
-    ∙ or_shifted (number f (8 * at) 32) 32 (number f (8 * at + 32) 32) (number_lt f (bit_at_lt octets) (8 * at + 32) 32)
-    ∙ sym (number-split f (8 * at) 32 32)
+-- eight octets as one number
+pub load : (octets : List ℕ) → ((i : ℕ) → get_or octets i 0 < 256) → (at : ℕ)
+    → from_be_bytes w64 (get_or octets at 0 ∷ get_or octets (at + 1) 0 ∷ get_or octets (at + 2) 0 ∷ get_or octets (at + 3) 0 ∷ get_or octets (at + 4) 0 ∷ get_or octets (at + 5) 0 ∷ get_or octets (at + 6) 0 ∷ get_or octets (at + 7) 0 ∷ [])
+    ≡ number (bit_at octets) (8 * at) 64
+load octets octet-lt at =
+    let e0 = number-octet octets at (octet-lt at) in
+    let e1 = number-next octets at 1 (octet-lt (at + 1)) in
+    let e2 = number-next octets at 2 (octet-lt (at + 2)) in
+    let e3 = number-next octets at 3 (octet-lt (at + 3)) in
+    let e4 = number-next octets at 4 (octet-lt (at + 4)) in
+    let e5 = number-next octets at 5 (octet-lt (at + 5)) in
+    let e6 = number-next octets at 6 (octet-lt (at + 6)) in
+    let e7 = number-next octets at 7 (octet-lt (at + 7)) in
+    omega arith

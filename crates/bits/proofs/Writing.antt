@@ -10,10 +10,6 @@ use lib.Seq.{sets, sets-eq, take_at, drop_at, drop-drop, length-take-le}
 use Rattle.bits.specs.Order.{laid_at}
 use Rattle.bits.proofs.Laid.{fits}
 
--- octets stored one by one
-pub stored : (new old : List ℕ) (at : ℕ) → at + length new ≤ length old → sets old at new ≡ laid_at new at old
-stored new old at h = sets-eq new old at h ∙ sym (fits new at old h)
-
 pub length-laid_at : (new : List ℕ) (at : ℕ) (old : List ℕ) → at + length new ≤ length old → length (laid_at new at old) ≡ length old
 length-laid_at new at old h =
     ap length (fits new at old h)

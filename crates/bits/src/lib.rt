@@ -1,33 +1,25 @@
 // Octets read and written as bits, most significant bit first: document 01, "From octets to lane bits"; and numbers held to a bound.
 #![tactic(auto)]
 
-ghost use Rattle.std.specs.Prelude.{◌≡◌, ◌+◌, ◌*◌, ◌≤◌, ◌<◌, length, get_or};
+ghost use Rattle.std.specs.Prelude.{◌≡◌, ℕ, ◌+◌, ◌*◌, ◌≤◌, ◌<◌, length, get_or};
 ghost use Rattle.bits.specs.Bounds.{all_below};
 ghost use Rattle.bits.specs.Order.{bit_at, number, digit, octets_of, laid_at};
-
-fn wide(octet: u8) -> u64
-    ensures { result ≡ octet }
-{
-    octet as u64
-}
-
-// Four octets that are there.
-fn half_word(octets: &[u8], at: usize) -> u64
-    requires { at + 4 ≤ length octets.now }
-    ensures { result ≡ number (bit_at octets.now) (8 * at) 32 }
-{
-    (wide(octets[at]) << 24)
-        | (wide(octets[at + 1]) << 16)
-        | (wide(octets[at + 2]) << 8)
-        | wide(octets[at + 3])
-}
 
 // Eight octets that are there, as one load.
 fn whole_word(octets: &[u8], at: usize) -> u64
     requires { at + 8 ≤ length octets.now }
     ensures { result ≡ number (bit_at octets.now) (8 * at) 64 }
 {
-    (half_word(octets, at) << 32) | half_word(octets, at + 4)
+    u64::from_be_bytes([
+        octets[at],
+        octets[at + 1],
+        octets[at + 2],
+        octets[at + 3],
+        octets[at + 4],
+        octets[at + 5],
+        octets[at + 6],
+        octets[at + 7],
+    ])
 }
 
 // The octet at a place; 0 past the end.
@@ -43,10 +35,8 @@ fn last_word(octets: &[u8], at: usize) -> u64
     ensures { result ≡ number (bit_at octets.now) (8 * at) 64 }
 {
     let mut word: u64 = 0;
-    let mut i: usize = 0;
-    while at + i < octets.len() {
-        word = word | (wide(octets[at + i]) << (56 - 8 * i));
-        i = i + 1;
+    for i in at..octets.len() {
+        word |= u64::from(octets[i]) << (56 - 8 * (i - at));
     }
     word
 }
@@ -55,58 +45,65 @@ fn last_word(octets: &[u8], at: usize) -> u64
 pub fn word_at(octets: &[u8], at: usize) -> u64
     ensures { result ≡ number (bit_at octets.now) (8 * at) 64 }
 {
-    if octets.len() < 8 {
-        return last_word(octets, at);
+    if octets.len() >= 8 && at <= octets.len() - 8 {
+        whole_word(octets, at)
+    } else {
+        last_word(octets, at)
     }
-    if at <= octets.len() - 8 {
-        return whole_word(octets, at);
-    }
-    last_word(octets, at)
 }
 
-// The 32 low bits of a word over four octets that are there.
-fn put_half(out: &mut [u8], at: usize, word: u64)
-    requires { at + 4 ≤ length out.old }
-    ensures { out.new ≡ laid_at (octets_of (digit 32 word) 4) at out.old }
-{
-    out[at] = ((word >> 24) % 256) as u8;
-    out[at + 1] = ((word >> 16) % 256) as u8;
-    out[at + 2] = ((word >> 8) % 256) as u8;
-    out[at + 3] = (word % 256) as u8;
+// A block: a word of 64 bits, or the eight octets that it holds.
+pub trait Block {
+    ghost word: { Self → ℕ };
+
+    fn word(&self) -> u64
+        ensures { result ≡ word self.now };
+
+    // Its octet k; 0 past the last.
+    fn octet(&self, k: usize) -> u8
+        ensures { result ≡ get_or (octets_of (digit 64 (word self.now)) 8) k 0 };
 }
 
-// Eight octets that are there, as one store.
-fn put_whole(out: &mut [u8], at: usize, word: u64)
-    requires { at + 8 ≤ length out.old }
-    ensures { out.new ≡ laid_at (octets_of (digit 64 word) 8) at out.old }
-{
-    put_half(out, at, word >> 32);
-    put_half(out, at + 4, word);
+impl Block for u64 {
+    ghost word = { λ word. word };
+
+    fn word(&self) -> u64 {
+        *self
+    }
+
+    fn octet(&self, k: usize) -> u8 {
+        if k < 8 {
+            ((*self >> (56 - 8 * k)) % 256) as u8
+        } else {
+            0
+        }
+    }
+}
+
+impl Block for [u8; 8] {
+    ghost word = { λ octets. number (bit_at octets) 0 64 };
+
+    fn word(&self) -> u64 {
+        word_at(self, 0)
+    }
+
+    fn octet(&self, k: usize) -> u8 {
+        octet_at(self, k)
+    }
 }
 
 // The 64 bits of a word as eight octets, from octet `at` on; nothing where they do not fit.
 pub fn put_word(out: &mut [u8], at: usize, word: u64)
     ensures { out.new ≡ laid_at (octets_of (digit 64 word) 8) at out.old }
 {
-    if out.len() < 8 {
-        return;
+    if out.len() >= 8 && at <= out.len() - 8 {
+        out[at..at + 8].copy_from_slice(&word.to_be_bytes());
     }
-    if out.len() - 8 < at {
-        return;
-    }
-    put_whole(out, at, word);
 }
 
 // Whether each number is below a bound.
 pub fn all_below(bound: u32, numbers: &[u32]) -> bool
     ensures { result ≡ all_below bound numbers.now }
 {
-    let mut i = 0;
-    while i < numbers.len() {
-        if numbers[i] >= bound {
-            return false;
-        }
-        i += 1;
-    }
-    true
+    numbers.iter().all(|number| *number < bound)
 }

@@ -14,7 +14,7 @@ use Rattle.bits.proofs.Xor.{odd-lt, xor_assoc, xor-swap}
 use Rattle.bits.proofs.Numbers.{number-none, number-first, number_lt, number-ext, number-whole}
 use Rattle.polynomial.specs.Polynomial.{scale, times_power, power}
 use Rattle.polynomial.specs.Remainder.{next, remainder_from, remainder}
-use Rattle.polynomial.proofs.Remainder.{from_zero, from-none, from_first, from-digits, next_power, remainder-lt}
+use Rattle.polynomial.proofs.Remainder.{from_zero, from-none, from_first, from-digits, next_power}
 use Rattle.polynomial.proofs.Register.{first-octet}
 use Rattle.polynomial.proofs.Polynomial.{scale-xor, scale-above, scale-lt, times_power-none, times_power-zero, times_power-lt, power-low}
 use Rattle.parity.specs.Codeword.{Code, parity_of, weight, codeword, weighed, remainder_of}
@@ -125,11 +125,7 @@ module _ (C : Code) where
           ∙ sym (weighed-append (codeword C f parity) 0 n w)
           ∙ ap (weighed C (codeword C f parity) 0) {x = n + w} {y = C.positions} (omega arith)
 
--- ---- a parity is no wider than the code's, and octets 0 in front don't change it
-
-pub parity-lt : (C : Code) → C.lower < 2 ^ C.width → (octets : List ℕ) → parity_of C octets < 2 ^ C.width
-unfolding parity_of
-parity-lt C fits octets = remainder-lt C.width C.lower fits (bits_of octets)
+-- ---- octets 0 in front don't change a parity
 
 -- an octet 0 in front leaves a zero start as it is
 leading-zero : (C : Code) (octets : List ℕ) → parity_of C (0 ∷ octets) ≡ parity_of C octets

@@ -10,7 +10,7 @@ use native.Mathlib.Omega.{arith}
 use lib.ListN.{get_or}
 use lib.Arith.{lt-one, digits_div}
 use lib.Dec.{lit<, lit≤}
-use lib.Pow.{pow_pos, mod-pow-add}
+use lib.Pow.{pow_pos, mod-pow-add, shr-shr}
 use lib.Bits.{bit_xor, bit_and, and_mask, xor_lt, xor_comm, xor_zero_r}
 use Rattle.bits.specs.Order.{list_from}
 use Rattle.bits.proofs.Lists.{get_or-list}
@@ -129,19 +129,30 @@ pub weight-at : (weights : List ℕ) (p : ℕ) → weights ≡ list_from (weight
 weight-at weights p e l = ap (λ (ws : List ℕ). get_or ws p 0) e ∙ get_or-list (weight fec) 0 2074 p l ∙ ap (weight fec) (zero-add p)
 
 -- what is left of a pattern stays inside
-pub next-inside : (p q : ℕ) → q < 2 ^ (2074 - p) → q / 2 < 2 ^ (2074 - (p + 1))
-next-inside p q h = go (2074 - p) (2074 - (p + 1)) (omega arith) h
+pub next-inside : (k place pattern : ℕ) → pattern / 2 ^ k < 2 ^ (2074 - (place + k)) → pattern / 2 ^ (k + 1) < 2 ^ (2074 - (place + (k + 1)))
+next-inside k place pattern h =
+    subst (λ (x : ℕ). x < 2 ^ (2074 - (place + (k + 1)))) (shr-shr pattern k 1) (go (2074 - (place + k)) (2074 - (place + (k + 1))) (omega arith) h)
   where
+    q : ℕ
+    q = pattern / 2 ^ k
+
     go : (n m : ℕ) → m ≡ n - 1 → q < 2 ^ n → q / 2 < 2 ^ m
     go zero m e l = let none : q ≡ 0 = lt-one l in let some : 0 < 2 ^ m = pow_pos m in omega arith
     go (suc n) m e l = subst (λ (x : ℕ). q / 2 < 2 ^ x) {x = n} {y = m} (omega arith) (half_lt n q l)
 
 -- a bit more, set or not
-module _ (k p q sum sum' total : ℕ) (l : k < 9) (inv : bit_xor sum (pattern_sum fec (9 - k) p q) ≡ total) where
-  bit-more : sum' ≡ bit_xor sum (scale q (weight fec p)) → bit_xor sum' (pattern_sum fec (9 - (k + 1)) (p + 1) (q / 2)) ≡ total
+module _ (k place pattern sum sum' total : ℕ) (l : k < 9) (inv : bit_xor sum (pattern_sum fec (9 - k) (place + k) (pattern / 2 ^ k)) ≡ total) where
+  abbrev p : ℕ
+  p = place + k
+
+  abbrev q : ℕ
+  q = pattern / 2 ^ k
+
+  bit-more : sum' ≡ bit_xor sum (scale q (weight fec p)) → bit_xor sum' (pattern_sum fec (9 - (k + 1)) (place + (k + 1)) (pattern / 2 ^ (k + 1))) ≡ total
   unfolding pattern_sum
   bit-more e =
-      ap₂ (λ (x y : ℕ). bit_xor x (pattern_sum fec (9 - (k + 1)) y (q / 2))) e (add-one p)
+      ap₂ (λ (x y : ℕ). bit_xor x (pattern_sum fec (9 - (k + 1)) y (pattern / 2 ^ (k + 1)))) e (let at : place + (k + 1) ≡ suc p = omega arith in at)
+      ∙ ap (λ (x : ℕ). bit_xor (bit_xor sum (scale q (weight fec p))) (pattern_sum fec (9 - (k + 1)) (suc p) x)) (sym (shr-shr pattern k 1))
       ∙ xor_assoc sum (scale q (weight fec p)) (pattern_sum fec (9 - (k + 1)) (suc p) (q / 2))
       ∙ ap (λ (n : ℕ). bit_xor sum (pattern_sum fec n p q)) {x = suc (9 - (k + 1))} {y = 9 - k} (omega arith)
       ∙ inv
@@ -149,10 +160,10 @@ module _ (k p q sum sum' total : ℕ) (l : k < 9) (inv : bit_xor sum (pattern_su
   scaled : {b : ℕ} → q % 2 ≡ b → scale q (weight fec p) ≡ scale b (weight fec p)
   scaled e = sym (scale-mod q (weight fec p)) ∙ ap (λ (x : ℕ). scale x (weight fec p)) e
 
-  pub bit-set : bit_and q 1 ≡ 1 → sum' ≡ bit_xor sum (weight fec p) → bit_xor sum' (pattern_sum fec (9 - (k + 1)) (p + 1) (q / 2)) ≡ total
+  pub bit-set : bit_and q 1 ≡ 1 → sum' ≡ bit_xor sum (weight fec p) → bit_xor sum' (pattern_sum fec (9 - (k + 1)) (place + (k + 1)) (pattern / 2 ^ (k + 1))) ≡ total
   bit-set b e = bit-more (e ∙ ap (bit_xor sum) (sym (scaled (sym (and_mask q 1) ∙ b) ∙ scale_one (weight fec p))))
 
-  pub bit_not : (bit_and q 1 ≡ 1 → ⊥) → sum' ≡ sum → bit_xor sum' (pattern_sum fec (9 - (k + 1)) (p + 1) (q / 2)) ≡ total
+  pub bit_not : (bit_and q 1 ≡ 1 → ⊥) → sum' ≡ sum → bit_xor sum' (pattern_sum fec (9 - (k + 1)) (place + (k + 1)) (pattern / 2 ^ (k + 1))) ≡ total
   bit_not b e =
       let none : q % 2 ≡ 0 = bit-cases (λ (x : ℕ). q % 2 ≡ x → x ≡ 0) (λ z. refl) (λ z. absurd (b (and_mask q 1 ∙ z))) (q % 2) (odd-lt q) refl in
       bit-more (e ∙ sym (xor_zero_r sum) ∙ ap (bit_xor sum) (sym (scaled none ∙ scale-zero (weight fec p))))

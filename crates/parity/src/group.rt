@@ -1,8 +1,10 @@
 // The CRC-3 remainder of a group of blocks, a block at once, by shifts and without a table: request 5; clause 7.4.3.
-ghost use Rattle.std.specs.Prelude.{◌≡◌, ◌*◌, ◌<◌};
+ghost use Rattle.std.specs.Prelude.{◌≡◌, ℕ, ◌*◌, ◌<◌};
 ghost use Rattle.bits.specs.Order.{bit_at, digits, number, word_bit};
+ghost use Rattle.bits.proofs.Numbers.{bit_at_lt};
+ghost use Rattle.bits.proofs.WordLists.{word_bit-lt};
 ghost use Rattle.polynomial.specs.Remainder.{remainder_from};
-ghost use Rattle.parity.specs.Codeword.{crc3, group_parity};
+ghost use Rattle.parity.specs.Codeword.{crc3, group_parity, multiblock_parity};
 
 use crate::Crc3;
 
@@ -29,35 +31,58 @@ fn left(sum: u64) -> u32
     ((q16 ^ (q16 << 1)) % CRC3_PARITIES) as u32
 }
 
-// A word of a list; 0 past the end.
-fn word_of(words: &[u64], i: usize) -> u64
-    ensures { result ≡ number (word_bit words.now) (64 * i) 64 }
-{
-    if i < words.len() { words[i] } else { 0 }
+// Octets, or words that hold octets, by blocks of 64 bits. Past the end bits are 0.
+pub(crate) trait Blocks: Copy {
+    ghost bit: { Self → ℕ → ℕ };
+
+    // Block i.
+    fn block(self, i: usize) -> u64
+        requires { i < crc3.groups * crc3.blocks }
+        ensures { result ≡ number (bit self) (64 * i) 64 };
+
+    ghost bits: { (blocks : Self) (k : ℕ) → bit blocks k < 2 };
 }
 
-// The parity of group g of octets.
-pub(crate) fn of_octets(octets: &[u8], g: usize) -> u32
+impl Blocks for &[u8] {
+    ghost bit = { λ octets. bit_at octets.now };
+
+    ghost bits = { λ octets. bit_at_lt octets.now };
+
+    fn block(self, i: usize) -> u64 {
+        bits::word_at(self, 8 * i)
+    }
+}
+
+impl Blocks for &[u64] {
+    ghost bit = { λ words. word_bit words.now };
+
+    ghost bits = { λ words. word_bit-lt words.now };
+
+    fn block(self, i: usize) -> u64 {
+        if i < self.len() { self[i] } else { 0 }
+    }
+}
+
+// The parity of group g.
+fn of_group<B: Blocks>(blocks: B, g: usize) -> u32
     requires { g < crc3.groups }
-    ensures { result ≡ group_parity crc3 (bit_at octets.now) g }
+    ensures { result ≡ group_parity crc3 (B.bit blocks) g }
 {
     let first = Crc3::BLOCKS * g;
     let mut sum: u64 = 0;
     for k in 0..Crc3::BLOCKS {
-        sum = next(sum, bits::word_at(octets, 8 * (first + k)));
+        sum = next(sum, blocks.block(first + k));
     }
     left(sum)
 }
 
-// The same of the octets that words hold.
-pub(crate) fn of_words(words: &[u64], g: usize) -> u32
-    requires { g < crc3.groups }
-    ensures { result ≡ group_parity crc3 (word_bit words.now) g }
+// The parities of all groups in one number, the first group's the highest.
+pub(crate) fn of_all<B: Blocks>(blocks: B) -> u32
+    ensures { result ≡ multiblock_parity crc3 (B.bit blocks) }
 {
-    let first = Crc3::BLOCKS * g;
-    let mut sum: u64 = 0;
-    for k in 0..Crc3::BLOCKS {
-        sum = next(sum, word_of(words, first + k));
+    let mut whole: u32 = 0;
+    for g in 0..Crc3::GROUPS {
+        whole = (whole << Crc3::WIDTH) + of_group(blocks, g);
     }
-    left(sum)
+    whole
 }

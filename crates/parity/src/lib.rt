@@ -12,11 +12,13 @@ mod group;
 mod search;
 mod word;
 
+use bitwise::Polynomial;
+
 // A burst in an FEC codeword: its first position, and its bits from there on, lowest first.
-#[derive(Clone, Copy)]
-pub enum Burst {
-    At(u16, u16),
-    Nothing,
+#[derive(Clone, Copy, Debug, PartialEq, Eq)]
+pub struct Burst {
+    pub place: u16,
+    pub pattern: u16,
 }
 
 #[derive(Clone, Copy)]
@@ -35,13 +37,18 @@ impl Crc12 {
 
     pub const BLOCKS: usize = 32;
 
+    const POLYNOMIAL: Polynomial = Polynomial {
+        width: Crc12::WIDTH,
+        lower: Crc12::LOWER,
+    };
+
     // The parity of octets, of any number.
     pub fn of(octets: &[u8]) -> u32
         ensures { result ≡ parity_of crc12 octets.now }
     {
         let r = rows::of_octets(octets);
-        let count = octets.len() / 8;
-        bitwise::rest(Crc12::WIDTH, Crc12::LOWER, r, octets, 8 * count)
+        let (_, rest) = octets.as_chunks::<8>();
+        Crc12::POLYNOMIAL.rest(r, rest)
     }
 
     // The parity of the octets that words hold, of any number.
@@ -72,22 +79,14 @@ impl Crc3 {
     pub fn of(octets: &[u8]) -> u32
         ensures { result ≡ multiblock_parity crc3 (bit_at octets.now) }
     {
-        let mut whole: u32 = 0;
-        for g in 0..Crc3::GROUPS {
-            whole = (whole << Crc3::WIDTH) + group::of_octets(octets, g);
-        }
-        whole
+        group::of_all(octets)
     }
 
     // The same of the octets that words hold.
     pub fn of_words(words: &[u64]) -> u32
         ensures { result ≡ multiblock_parity crc3 (word_bit words.now) }
     {
-        let mut whole: u32 = 0;
-        for g in 0..Crc3::GROUPS {
-            whole = (whole << Crc3::WIDTH) + group::of_words(words, g);
-        }
-        whole
+        group::of_all(words)
     }
 }
 
@@ -107,31 +106,35 @@ impl Fec {
 
     pub const BLOCKS: usize = 32;
 
+    const POLYNOMIAL: Polynomial = Polynomial {
+        width: Fec::WIDTH,
+        lower: Fec::LOWER,
+    };
+
     // The parity of octets, of any number.
     pub fn of(octets: &[u8]) -> u32
         ensures { result ≡ parity_of fec octets.now }
     {
-        let count = octets.len() / 8;
-        let r = word::fec_words(octets, count);
-        bitwise::rest(Fec::WIDTH, Fec::LOWER, r, octets, 8 * count)
+        let (blocks, rest) = octets.as_chunks::<8>();
+        Fec::POLYNOMIAL.rest(word::of_blocks(blocks), rest)
     }
 
     // The parity of the octets that words hold, of any number.
     pub fn of_words(words: &[u64]) -> u32
         ensures { result ≡ parity_of fec (octets_in words.now) }
     {
-        word::of_words(words)
+        word::of_blocks(words)
     }
 
     // The burst of at most LIMIT bits that makes a remainder, if there is one: no two make the same.
-    pub fn burst(remainder: u32) -> Burst
+    pub fn burst(remainder: u32) -> Option<Burst>
         ensures { result ≡ burst_for fec remainder }
     {
         if remainder < 1 << Fec::WIDTH {
             let table = weights::table();
             search::search(&table, remainder)
         } else {
-            Burst::Nothing
+            None
         }
     }
 }

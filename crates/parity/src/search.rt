@@ -36,7 +36,7 @@ fn first_trap(remainder: u32) -> u32
     let mut trap: u32 = 0;
     let mut power = BACK;
     for k in 0..Fec::WIDTH {
-        trap = trap ^ (((remainder >> k) & 1) * power);
+        trap ^= ((remainder >> k) & 1) * power;
         power = times_x(power);
     }
     trap
@@ -68,37 +68,34 @@ fn sum_of(weights: &[u32; Fec::POSITIONS], place: usize, pattern: u32) -> u32
     ensures { result ≡ remainder_of fec (flips place pattern) }
 {
     let mut sum: u32 = 0;
-    let mut left = pattern;
-    let mut position = place;
-    for _ in 0..Fec::LIMIT {
-        if left & 1 == 1 {
-            sum = sum ^ weights[position];
+    for k in 0..Fec::LIMIT {
+        if (pattern >> k) & 1 == 1 {
+            sum ^= weights[place + k];
         }
-        left = left >> 1;
-        position += 1;
     }
     sum
 }
 
-// By place, and at each place by pattern: left as soon as a pair agrees.
-pub(crate) fn search(weights: &[u32; Fec::POSITIONS], remainder: u32) -> Burst
+// By place, and at each place by pattern: left as soon as a pair agrees. Within a caller the compiler would count the packed pair
+// along at each place too.
+#[inline(never)]
+pub(crate) fn search(weights: &[u32; Fec::POSITIONS], remainder: u32) -> Option<Burst>
     requires weights_value { weights.now ≡ list_from (weight fec) 0 fec.positions }
     requires remainder_bound { remainder < 2 ^ fec.width }
     ensures { result ≡ burst_for fec remainder }
 {
-    let mut found = Burst::Nothing;
+    let mut found = None;
     let mut trap = first_trap(remainder);
     'search: for place in 0..Fec::POSITIONS {
         let end = patterns_below(remainder, trap, place);
-        let mut pattern: u32 = 1;
-        while pattern < end {
+        for pattern in (1..end).step_by(2) {
             if sum_of(weights, place, pattern) == remainder {
-                let first = place as u16;
-                let bits = pattern as u16;
-                found = Burst::At(first, bits);
+                found = Some(Burst {
+                    place: place as u16,
+                    pattern: pattern as u16,
+                });
                 break 'search;
             }
-            pattern += 2;
         }
         trap = times_x(trap);
     }

@@ -2,11 +2,11 @@
 use mathlib.Core.Path.{◌≡◌, sym, ap, ap₂, ◌∙◌}
 use mathlib.Core.List.{List, [], ◌∷◌, ◌++◌}
 use Prim.Native.Nat.{ℕ, zero, suc, ◌+◌, ◌-◌, ◌*◌, ◌/◌, ◌%◌, ◌^◌, ◌<◌, ◌≤◌}
-use native.Mathlib.Nat.{not-suc-le-zero, one-mul, lt_of_lt_of_le, mod-eq_of_lt, zero-lt-suc, le_refl}
+use native.Mathlib.Nat.{not-suc-le-zero, one-mul, mod-eq_of_lt, zero-lt-suc, le_refl}
 use native.Mathlib.Numerals.{sub-one}
 use native.Mathlib.Omega.{arith}
 use lib.ListN.{length, get_or, replicate}
-use lib.Pow.{pow_pos, pow_mono, shl_exact}
+use lib.Pow.{shl_exact}
 use lib.Bits.{bit_xor, bit_and, and_mask, xor_comm}
 use Rattle.bits.specs.Order.{bits_of, digits}
 use Rattle.bits.proofs.Xor.{xor_assoc}
@@ -14,7 +14,7 @@ use Rattle.bits.proofs.Lists.{bits_from, from_start, from_next, from_end, digits
 use Rattle.bits.proofs.Octets.{after_first}
 use Rattle.polynomial.specs.Polynomial.{scale, times_x, times_power}
 use Rattle.polynomial.specs.Remainder.{next, remainder_from}
-use Rattle.polynomial.proofs.Polynomial.{scale-xor, scale-and, scale-lt, top_lt, times_power-none, times_power-add}
+use Rattle.polynomial.proofs.Polynomial.{scale-xor, top_lt, times_power-none, times_power-add}
 use Rattle.polynomial.proofs.Remainder.{from-append, no_digit, first-digit}
 use Rattle.polynomial.proofs.Digits.{from-zeros}
 
@@ -25,12 +25,6 @@ up w r hw hr = shl_exact w 1 32 hr (omega arith)
 
 one_up : (w : ℕ) → w ≤ 31 → 1 * 2 ^ w % 2 ^ 32 ≡ 2 ^ w
 one_up w hw = shl_exact {a = 1} 1 w 32 (omega arith) (omega arith) ∙ one-mul (2 ^ w)
-
-pub mask-some : (w : ℕ) → w ≤ 31 → 1 ≤ 1 * 2 ^ w % 2 ^ 32
-mask-some w hw = rw (one_up w hw) (pow_pos w)
-
-pub multiple-fits : (w g x : ℕ) → w ≤ 31 → g < 2 ^ w → bit_and x 1 * g < 2 ^ 32
-multiple-fits w g x hw hg = rw (scale-and x g) (lt_of_lt_of_le (scale-lt w x g hg) (pow_mono {i = w} {j = 32} (omega arith)))
 
 pub step-code : (w g r b : ℕ) → w ≤ 31 → r < 2 ^ w
     → bit_xor (bit_and (bit_xor (r * 2 % 2 ^ 32 / 2 ^ w) b) 1 * g) (bit_and (r * 2 % 2 ^ 32) (1 * 2 ^ w % 2 ^ 32 - 1)) ≡ next w g r b

@@ -1,16 +1,18 @@
 -- The FEC remainder 64 bits at once by shifts, and any remainder word by word. Assumes nothing.
 use mathlib.Core.Path.{◌≡◌, refl, sym, ap, ap₂, ◌∙◌}
-use mathlib.Core.List.{List, [], ◌∷◌}
-use Prim.Native.Nat.{ℕ, ◌+◌, ◌-◌, ◌*◌, ◌/◌, ◌%◌, ◌^◌, ◌≤◌, ◌<◌}
-use native.Mathlib.Nat.{zero-add}
+use mathlib.Core.List.{List, [], ◌∷◌, map}
+use Prim.Native.Nat.{ℕ, ◌+◌, ◌-◌, ◌*◌, ◌/◌, ◌%◌, ◌^◌, ◌<◌}
+use native.Mathlib.Nat.{zero-add, le_refl}
 use native.Mathlib.Omega.{arith}
-use lib.ListN.{length, get_or}
+use lib.ListN.{length, get_or, drop}
 use lib.Dec.{T, lit<, lit≤}
 use lib.Pow.{shl_exact}
 use lib.Bits.{bit_xor, xor_lt}
+use Rattle.std.proofs.lemmas.List.{get_or-map, map-id}
 use Rattle.bits.specs.Order.{bit_at, bits_of, list_from, number, digits, word_bit, octets_in}
-use Rattle.bits.proofs.Lists.{list-append, digits_number, from_start}
-use Rattle.bits.proofs.WordLists.{word_bit-lt, number_word, bits_of-octets_in}
+use Rattle.bits.proofs.Lists.{list-append, digits_number, digits_low, from_start}
+use Rattle.bits.proofs.Octets.{bits-drop}
+use Rattle.bits.proofs.WordLists.{word_bit-lt, number_low, bits_of-octets_in}
 use Rattle.bits.proofs.Tests.{every}
 use Rattle.polynomial.specs.Polynomial.{scale, times_x}
 use Rattle.polynomial.specs.Remainder.{next, remainder_from, remainder}
@@ -67,21 +69,30 @@ module _ (w g : ℕ) where
       → remainder_from w g s (digits 64 word) ≡ remainder_from w g 0 (list_from f 0 (64 * (i + 1)))
   word_more f d i k s word at = word_after f d 0 i k s word (at ∙ sym (zero-add (64 * i)))
 
-  -- the words of a list: the next, and all
-  module _ (words : List ℕ) where
-    pub word_next : (i s : ℕ) → get_or words i 0 < 2 ^ 64 → s ≡ remainder_from w g 0 (list_from (word_bit words) 0 (64 * i))
-        → remainder_from w g s (digits 64 (get_or words i 0)) ≡ remainder_from w g 0 (list_from (word_bit words) 0 (64 * (i + 1)))
-    word_next i s h p = word_more (word_bit words) (word_bit-lt words) i (64 * i) s (get_or words i 0) refl p (sym (number_word words i h))
+  -- the next block of a list, as a word
+  module _ {B : Type 0} (word : B → ℕ) (blocks : List B) where
+    pub block_next : (i s : ℕ) (block : B) → i < length blocks → block ≡ get_or blocks i block
+        → s ≡ remainder_from w g 0 (list_from (word_bit (map word blocks)) 0 (64 * i))
+        → remainder_from w g s (digits 64 (word block)) ≡ remainder_from w g 0 (list_from (word_bit (map word blocks)) 0 (64 * (i + 1)))
+    block_next i s block h b p =
+        let words = map word blocks in
+        let own : word block ≡ get_or words i 0 = ap word b ∙ sym (get_or-map word blocks i block 0 h) in
+        sym (ap (remainder_from w g s) (digits_low 64 64 (word block) (le_refl 64)))
+        ∙ word_more (word_bit words) (word_bit-lt words) i (64 * i) s (word block % 2 ^ 64) refl p (ap (λ (x : ℕ). x % 2 ^ 64) own ∙ sym (number_low words i))
 
-    pub words-all : remainder_from w g 0 (list_from (word_bit words) 0 (64 * length words)) ≡ remainder w g (bits_of (octets_in words))
-    unfolding remainder
-    words-all = ap (remainder_from w g 0) (sym (bits_of-octets_in words))
+  -- the words of a list
+  module _ (words : List ℕ) where
+    pub words-all : remainder w g (list_from (word_bit (map (λ (word : ℕ). word) words)) 0 (64 * length words)) ≡ remainder w g (bits_of (octets_in words))
+    words-all =
+        ap (λ (l : List ℕ). remainder w g (list_from (word_bit l) 0 (64 * length words))) (map-id words) ∙ ap (remainder w g) (sym (bits_of-octets_in words))
 
   -- the octets that fill no word
-  pub words-rest : (octets : List ℕ) (count s : ℕ) → 8 * count ≤ length octets → s ≡ remainder_from w g 0 (list_from (bit_at octets) 0 (64 * count))
-      → remainder_from w g s (list_from (bit_at octets) (8 * (8 * count)) (8 * (length octets - 8 * count))) ≡ remainder w g (bits_of octets)
+  pub words-rest : (octets rest : List ℕ) (s : ℕ) → rest ≡ drop (length octets / 8 * 8) octets → s ≡ remainder w g (list_from (bit_at octets) 0 (64 * (length octets / 8)))
+      → remainder_from w g s (bits_of rest) ≡ remainder w g (bits_of octets)
   unfolding remainder
-  words-rest octets count s h p =
-      ap (λ (r : ℕ). remainder_from w g r (list_from (bit_at octets) (8 * (8 * count)) (8 * (length octets - 8 * count)))) p
-      ∙ before (bit_at octets) 0 (64 * count) (8 * (length octets - 8 * count)) (8 * (8 * count)) (8 * (length octets - 0)) (omega arith) (omega arith)
+  words-rest octets rest s e p =
+      let count = length octets / 8 in
+      ap₂ (λ (r : ℕ) (l : List ℕ). remainder_from w g r (bits_of l)) p e
+      ∙ ap (remainder_from w g (remainder_from w g 0 (list_from (bit_at octets) 0 (64 * count)))) (bits-drop (count * 8) octets)
+      ∙ before (bit_at octets) 0 (64 * count) (8 * (length octets - count * 8)) (8 * (count * 8)) (8 * (length octets - 0)) (omega arith) (omega arith)
       ∙ ap (remainder_from w g 0) (from_start octets)

@@ -7,31 +7,26 @@ use native.Mathlib.Omega.{arith}
 use lib.ListN.{get_or}
 use lib.Pow.{pow_pos}
 use lib.Bits.{bit_xor, xor_shr, xor_mod, xor_zero_r}
-use Rattle.bits.specs.Order.{bit_at, list_from, number, digits}
-use Rattle.bits.proofs.Numbers.{bit_at_lt, number-field, number-octet}
+use Rattle.bits.specs.Order.{list_from, digits, digit, octets_of}
+use Rattle.bits.proofs.Blocks.{octet-in}
 use Rattle.bits.proofs.Lists.{get_or-list, digits_low}
 use Rattle.bits.proofs.Xor.{xor_assoc}
 use Rattle.polynomial.specs.Polynomial.{times_power}
 use Rattle.polynomial.specs.Remainder.{remainder_from}
-use Rattle.polynomial.proofs.Remainder.{no_digit, from-lt}
+use Rattle.polynomial.proofs.Remainder.{no_digit}
 use Rattle.polynomial.proofs.Digits.{from_parts}
 use Rattle.rows.specs.Rows.{row_entry, rows_from, eight_rows}
 use Rattle.rows.proofs.Rows.{moved, entry-moved}
 
--- octet k of the eight from `at` on, with octet k of a number of 64 bits over it
-pub index-laid : (octets : List ℕ) (at over k : ℕ) → get_or octets (at + k) 0 < 256 → k < 8
-    → bit_xor (get_or octets (at + k) 0) (over / 2 ^ (8 * (7 - k)) % 256) ≡ bit_xor (number (bit_at octets) (8 * at) 64) over / 2 ^ (8 * (7 - k)) % 256
-index-laid octets at over k octet-lt h =
-    let f = bit_at octets in
-    let n = 8 * (7 - k) in
-    let own : number f (8 * at) 64 / 2 ^ n % 256 ≡ get_or octets (at + k) 0 =
-    ap (λ (m : ℕ). number f (8 * at) m / 2 ^ n % 256) {x = 64} {y = 8 * k + 8 + n} (omega arith)
-    ∙ number-field f (bit_at_lt octets) (8 * at) (8 * k) 8 n
-    ∙ ap (λ (p : ℕ). number f p 8) {x = 8 * at + 8 * k} {y = 8 * (at + k)} (omega arith)
-    ∙ number-octet octets (at + k) octet-lt in
-    sym (ap (λ (x : ℕ). x % 256) (xor_shr (number f (8 * at) 64) over n)
-    ∙ xor_mod (number f (8 * at) 64 / 2 ^ n) (over / 2 ^ n) 8
-    ∙ ap (λ (x : ℕ). bit_xor x (over / 2 ^ n % 256)) own)
+-- octet k of a word with another over it
+pub index-laid : (word over k octet above : ℕ) → k < 8 → octet ≡ get_or (octets_of (digit 64 word) 8) k 0 → above ≡ get_or (octets_of (digit 64 over) 8) k 0
+    → bit_xor octet above ≡ bit_xor word over / 2 ^ (8 * (7 - k)) % 256
+index-laid word over k octet above h o a =
+    let n = 56 - 8 * k in
+    ap₂ bit_xor (o ∙ sym (octet-in word k h)) (a ∙ sym (octet-in over k h))
+    ∙ sym (ap (λ (x : ℕ). bit_xor word over / 2 ^ x % 256) {x = 8 * (7 - k)} {y = n} (omega arith)
+    ∙ ap (λ (x : ℕ). x % 256) (xor_shr word over n)
+    ∙ xor_mod (word / 2 ^ n) (over / 2 ^ n) 8)
 
 module _ (w g : ℕ) where
   row_at : (k n j : ℕ) → j < n → get_or (rows_from w g k n) j [] ≡ list_from (row_entry w g (k + j)) 0 256
@@ -77,6 +72,3 @@ module _ (w g : ℕ) where
     octets-all k s h e =
         sym (ap (bit_xor s) (ap (λ (m : ℕ). remainder_from w g 0 (digits m block)) {x = 64 - 8 * k} {y = 0} (omega arith) ∙ no_digit w g 0 block) ∙ xor_zero_r s)
         ∙ e
-
-    pub octets-lt : g < 2 ^ w → (k s : ℕ) → 8 ≤ k → bit_xor s (rest_from k) ≡ rest_from 0 → s < 2 ^ w
-    octets-lt fits k s h e = rw (octets-all k s h e) (from-lt w g fits 0 (digits 64 block) (pow_pos w))

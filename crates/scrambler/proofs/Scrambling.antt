@@ -299,15 +299,6 @@ scrambled-blocks octets history n =
 pub words-all : (f : ℕ → ℕ) (n i : ℕ) (old : List ℕ) {words : List ℕ} → i ≡ n → length old ≡ n → words ≡ laid (words_of f i) old → words ≡ words_of f n
 words-all f n i old e long so_far = so_far ∙ ap (λ (x : ℕ). laid (words_of f x) old) e ∙ laid-all (words_of f n) old (omega (arith, length-words_of f n))
 
--- blocks that hold octets are descrambled to what these are
-pub descrambled-words : (octets : List ℕ) (history n : ℕ) (old : List ℕ) {blocks : List ℕ} → length old ≡ n → blocks ≡ laid (words_of (bit_at octets) n) old
-    → octets_of (plain history (word_bit blocks)) (8 * n) ≡ descrambled octets history (8 * n)
-unfolding descrambled
-descrambled-words octets history n old {blocks} long e =
-    octets_of-ext (plain history (word_bit blocks)) (plain history (bit_at octets)) (8 * n)
-    (λ k h. plain-ext history (word_bit blocks) (bit_at octets) k
-    (λ j q. ap (λ (x : List ℕ). word_bit x j) (words-all (bit_at octets) n n old refl long e) ∙ bit-words_of (bit_at octets) (bit_at_lt octets) n j (omega arith)))
-
 -- octets that carry what was sent of a user's octets from octet a on are descrambled to these: all of them after the right history, and
 -- all but the first eight after any
 module _ (user : List ℕ) (history a n : ℕ) (octets : List ℕ) (same : (q : ℕ) → q < 8 * n → bit_at octets q ≡ sent (bit_at user) history (8 * a + q)) where

@@ -1,8 +1,8 @@
 // Scrambling and descrambling, 64 bits at once: clause 7.2.4.
 #![tactic(auto)]
 
-ghost use Rattle.std.specs.Prelude.{◌≡◌, ◌%◌, ◌^◌, ◌≤◌, length};
-ghost use Rattle.bits.specs.Order.{bit_at, digit, number, octets_of, word_bit, words_of, laid, laid_at};
+ghost use Rattle.std.specs.Prelude.{◌≡◌, ◌%◌, ◌^◌};
+ghost use Rattle.bits.specs.Order.{bit_at, digit, number, words_of, laid_at};
 ghost use Rattle.scrambler.specs.Scrambling.{sent, plain, descrambled, history_after};
 
 // The block sent for a user's block after a history.
@@ -41,10 +41,9 @@ pub fn scramble_multiblock(user: &[u8], history: u64) -> Scrambled
 {
     let mut blocks = [0u64; 32];
     let mut past = history_after(history);
-    for i in 0..32usize {
-        let block = scramble(bits::word_at(user, 8 * i), past);
-        blocks[i] = block;
-        past = history_after(block);
+    for (i, block) in blocks.iter_mut().enumerate() {
+        *block = scramble(bits::word_at(user, 8 * i), past);
+        past = history_after(*block);
     }
     Scrambled {
         blocks,
@@ -52,39 +51,19 @@ pub fn scramble_multiblock(user: &[u8], history: u64) -> Scrambled
     }
 }
 
-// The 32 blocks of a multiblock received, a word each.
-fn blocks_of(octets: &[u8], blocks: &mut [u64])
-    requires { 32 ≤ length blocks.old }
-    ensures { blocks.new ≡ laid (words_of (bit_at octets.now) 32) blocks.old }
-{
-    for i in 0..32usize {
-        blocks[i] = bits::word_at(octets, 8 * i);
-    }
-}
-
-// Each of them descrambled after the block before. They come as words, since the compiler takes octets that it sees shifted one by one.
-fn descramble_blocks(blocks: &[u64], history: u64, out: &mut [u8])
-    requires { (32 ≤ length blocks.now) × (256 ≤ length out.old) }
-    ensures { out.new ≡ laid (octets_of (plain history (word_bit blocks.now)) 256) out.old }
-{
-    let mut past = history_after(history);
-    for i in 0..32usize {
-        let block = blocks[i];
-        bits::put_word(out, 8 * i, descramble(block, past));
-        past = history_after(block);
-    }
-}
-
-// 256 octets received descrambled over the start of `out`; nothing where they do not fit. Past the end of `octets` bits are 0.
+// 256 octets received descrambled over the start of `out`, each block after the block before; nothing where they do not fit. Past the end of
+// `octets` bits are 0.
 pub fn descramble_multiblock(octets: &[u8], history: u64, out: &mut [u8])
     ensures { out.new ≡ laid_at (descrambled octets.now history 256) 0 out.old }
 {
-    if out.len() < 256 {
-        return;
+    if out.len() >= 256 {
+        let mut past = history_after(history);
+        for i in 0..32usize {
+            let block = bits::word_at(octets, 8 * i);
+            bits::put_word(out, 8 * i, descramble(block, past));
+            past = history_after(block);
+        }
     }
-    let mut blocks = [0u64; 32];
-    blocks_of(octets, &mut blocks[..]);
-    descramble_blocks(&blocks[..], history, out);
 }
 
 // The history after 256 octets that were sent or received: their last 58 bits.

@@ -1,22 +1,13 @@
-use Rattle.std.proofs.Common.{rules}
-use native.Mathlib.Omega.{arith}
-use Rattle.bits.proofs.Bounds.{found, passed, ended}
+use Rattle.std.proofs.Common.{rules, tests}
+use mathlib.Core.Path.{◌∙◌}
+use lib.Dec.{ltb}
+use Rattle.std.proofs.lemmas.Iterator.{YieldsList-from_slice}
+use Rattle.std.proofs.lemmas.Iterator.Search.{all_from_yields_List}
+use Rattle.bits.proofs.Bounds.{each_below}
 use Rattle.bits.proofs.all_below.Goals as goal
-
-pub returns-then-numbers-i : goal.returns-then-numbers-i
-returns-then-numbers-i c =
-    let a = c.args in
-    let l = c.loop-i in
-    found a.bound a.numbers.now l.i l.invariant.1 (omega arith) c.if-numbers-i.true
-
-pub loop-i-preserved : goal.loop-i-preserved
-loop-i-preserved c =
-    let a = c.args in
-    let l = c.loop-i in
-    (search rules, passed a.bound a.numbers.now l.i l.invariant.1 (omega arith) c.if-numbers-i.false)
 
 pub returns : goal.returns
 returns c =
     let a = c.args in
-    let l = c.loop-i in
-    ended a.bound a.numbers.now l.i l.invariant.1 (omega arith)
+    all_from_yields_List (λ n. ltb n a.bound) _ _ _ c.all.ensures.ran (YieldsList-from_slice a.numbers.now cc) (λ x b q k. search (rules, tests))
+    ∙ each_below a.bound a.numbers.now

@@ -1,11 +1,9 @@
-use Prim.Native.Nat.{◌+◌, ◌-◌, ◌*◌, ◌^◌, ◌≤◌}
+use Prim.Native.Nat.{◌-◌, ◌*◌, ◌^◌, ◌≤◌}
 use mathlib.Core.Path.{◌≡◌}
 use lib.ListN.{length}
 use Rattle.bits.specs.Order.{bit_at, number}
 use Rattle.bits.proofs.last_word.Given as goal
 
 abbrev pub invariant-loop-i : goal.invariant-loop-i
-invariant-loop-i l = (l.i ≤ length l.octets - l.at) × (l.word ≡ number (bit_at l.octets) (8 * l.at) (8 * l.i) * 2 ^ (64 - 8 * l.i))
-
-abbrev pub decreases-loop-i : goal.decreases-loop-i
-decreases-loop-i l = length l.octets - (l.at + l.i)
+invariant-loop-i l =
+    (l.i-end ≡ length l.octets) × (l.i - l.at ≤ length l.octets - l.at) × (l.word ≡ number (bit_at l.octets) (8 * l.at) (8 * (l.i - l.at)) * 2 ^ (64 - 8 * (l.i - l.at)))

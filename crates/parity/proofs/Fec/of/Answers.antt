@@ -1,22 +1,22 @@
-use Rattle.std.proofs.Common.{rules}
-use Prim.Native.Nat.{◌*◌, ◌/◌}
-use native.Mathlib.Omega.{arith}
+use Prim.Native.Nat.{◌/◌}
+use mathlib.Core.Path.{ap, ◌∙◌}
 use lib.Dec.{lit<}
 use lib.ListN.{length}
-use lib.Pow.{pow_pos}
-use Rattle.bits.specs.Order.{bit_at, list_from}
-use Rattle.polynomial.proofs.Remainder.{from-lt}
+use Rattle.bits.proofs.Blocks.{bits-chunks}
+use Rattle.polynomial.specs.Remainder.{remainder}
+use Rattle.polynomial.proofs.Remainder.{remainder-lt}
 use Rattle.polynomial.proofs.Words.{words-rest}
 use Rattle.parity.specs.Codeword.{parity_of}
 use Rattle.parity.proofs.Fec.of.Goals as goal
 
 pub rest-requires : goal.rest-requires
-rest-requires c =
-    let octets = c.args.octets.now in
-    (search rules, search rules, rw c.fec_words-r.ensures (from-lt 26 0x0220211 (lit< tt) 0 (list_from (bit_at octets) 0 (64 * (length octets / 8))) (pow_pos 26)), omega arith)
+rest-requires c = rw c.of_blocks.ensures (remainder-lt 26 0x0220211 (lit< tt) _)
 
 pub returns : goal.returns
 unfolding parity_of
 returns c =
     let octets = c.args.octets.now in
-    rw c.rest.ensures (words-rest 26 0x0220211 octets (length octets / 8) c.fec_words-r.result (omega arith) c.fec_words-r.ensures)
+    let chunks = c.as_chunks in
+    rw c.rest.ensures
+    (words-rest 26 0x0220211 octets chunks.result.1.now c.of_blocks.result chunks.ensures.back
+    (c.of_blocks.ensures ∙ ap (remainder 26 0x0220211) (bits-chunks octets chunks.result.0.now (length octets / 8) chunks.ensures.front chunks.ensures.front_len)))

@@ -5,4 +5,4 @@ use Rattle.parity.proofs.Fec.of_words.Goals as goal
 
 pub returns : goal.returns
 unfolding parity_of
-returns c = c.of_words.ensures ∙ words-all 26 0x0220211 c.args.words.now
+returns c = c.of_blocks.ensures ∙ words-all 26 0x0220211 c.args.words.now
