@@ -7,7 +7,9 @@ ghost use Rattle.bits.specs.Order.{bit_at, digit, number, octets_of, word_bit, l
 ghost use Rattle.frame.specs.Headers.{header_of};
 ghost use Rattle.frame.specs.Lane.{multiblock, data_octets, first_bit, second_bit, lane_read};
 
+use frame::blocks;
 use frame::blocks::Multiblock;
+use frame::headers::Headers;
 
 // The header that carries a bit of the sync word.
 fn header_of(sync: u32, block: usize) -> u64
@@ -41,11 +43,8 @@ pub fn write(sync: u32, blocks: &[u64; 32], lane: &mut [u8])
     if lane.len() < OCTETS {
         return;
     }
-    // Of a slice's elements the proof knows that they are words.
-    let words = &blocks[..];
     let mut before: u64 = 0;
-    for block in 0..32usize {
-        let own = words[block];
+    for (block, &own) in blocks.iter().enumerate() {
         bits::put_word(lane, 8 * block, lane_word(sync, before, own, block));
         before = own;
     }
@@ -68,18 +67,19 @@ fn data_in(word: u64, next: u64, block: usize) -> u64
     ((word << 2) << (2 * block)) | (next >> (62 - 2 * block))
 }
 
-// The multiblock at the start of `lane`; past the end of the lane bits are 0.
-fn gather(lane: &[u8]) -> Multiblock
+// The multiblock on a lane of its length, which the compiler knows, so that the loop tests none.
+fn gather(lane: &[u8; OCTETS]) -> Multiblock
     ensures octets_value { result.octets ≡ data_octets 0 (bit_at lane.now) 0 }
-    ensures first_value { result.first ≡ number (first_bit 0 (bit_at lane.now) 0) 0 32 }
-    ensures second_value { result.second ≡ number (second_bit 0 (bit_at lane.now) 0) 0 32 }
+    ensures first_value { result.headers.first ≡ number (first_bit 0 (bit_at lane.now) 0) 0 32 }
+    ensures second_value { result.headers.second ≡ number (second_bit 0 (bit_at lane.now) 0) 0 32 }
 {
     let mut octets = [0u8; 256];
     let mut first: u32 = 0;
     let mut second: u32 = 0;
-    let mut word = bits::word_at(lane, 0);
-    for block in 0..32usize {
-        let next = bits::word_at(lane, 8 * (block + 1));
+    let (words, _) = lane.as_chunks::<8>();
+    let mut word = bits::word_at(&words[0], 0);
+    for (block, following) in words[1..].iter().enumerate() {
+        let next = bits::word_at(following, 0);
         let header = header_in(word, block);
         first = (first << 1) | (header >> 1);
         second = (second << 1) | (header & 1);
@@ -88,23 +88,18 @@ fn gather(lane: &[u8]) -> Multiblock
     }
     Multiblock {
         octets,
-        first,
-        second,
+        headers: Headers { first, second },
     }
 }
 
-// The multiblock at the start of `lane`; nothing where it is too short. The part is of a length that the compiler knows, so that the loop tests none.
+// The multiblock at the start of `lane`; nothing where it is too short.
 pub fn read(lane: &[u8]) -> Multiblock
     ensures octets_value { result.octets ≡ data_octets 0 (lane_read 0 lane.now) 0 }
-    ensures first_value { result.first ≡ number (first_bit 0 (lane_read 0 lane.now) 0) 0 32 }
-    ensures second_value { result.second ≡ number (second_bit 0 (lane_read 0 lane.now) 0) 0 32 }
+    ensures first_value { result.headers.first ≡ number (first_bit 0 (lane_read 0 lane.now) 0) 0 32 }
+    ensures second_value { result.headers.second ≡ number (second_bit 0 (lane_read 0 lane.now) 0) 0 32 }
 {
-    if lane.len() < OCTETS {
-        return Multiblock {
-            octets: [0u8; 256],
-            first: 0,
-            second: 0,
-        };
+    match lane.first_chunk() {
+        Some(whole) => gather(whole),
+        None => blocks::NOTHING,
     }
-    gather(&lane[0..OCTETS])
 }

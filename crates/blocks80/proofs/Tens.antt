@@ -34,10 +34,6 @@ module _ (f : ℕ → ℕ) (p : ℕ) where
       number-split f p 24 8
       ∙ ap (λ (x : ℕ). x * 256 + number f (p + 24) 8) (number-split f p 16 8 ∙ ap (λ (x : ℕ). x * 256 + number f (p + 16) 8) (number-split f p 8 8))
 
--- a << 30 + b << 20 + c << 10 + d
-pub apart : (a b c d : ℕ) → a < 256 → b < 256 → c < 256 → a * 2 ^ 30 % 2 ^ 64 + b * 2 ^ 20 % 2 ^ 64 + c * 2 ^ 10 % 2 ^ 64 + d ≡ four_tens a b c d
-apart a b c d ha hb hc = omega arith
-
 pub pairs-apart-lt : (pairs : ℕ) → pairs_apart pairs < 2 ^ 32
 unfolding pairs_apart
 pairs-apart-lt pairs = omega arith

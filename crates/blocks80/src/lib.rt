@@ -10,18 +10,22 @@ ghost use Rattle.frame.specs.Headers.{header_of};
 ghost use Rattle.frame.specs.Lane.{lane_octets, multiblock, fill_after, data_octets, first_bit, second_bit, lane_read};
 ghost use Rattle.blocks80.specs.inner.Half.{pairs_apart, octets_apart, half, gathered};
 
+use frame::blocks;
 use frame::blocks::Multiblock;
+use frame::headers::Headers;
 
 // Octets of a multiblock on the lane: ten for each block.
 pub const OCTETS: usize = 10 * 32;
 
 // Four pairs, the first the lowest, ten bits apart, and four octets, ten bits apart.
+#[tactic(auto, unfolding(crate::specs::inner::Half::pairs_apart))]
 fn pairs_apart(pairs: u64) -> u64
     ensures { result ≡ pairs_apart pairs }
 {
     ((pairs % 4) << 30) + ((pairs >> 2) % 4 << 20) + ((pairs >> 4) % 4 << 10) + (pairs >> 6) % 4
 }
 
+#[tactic(auto, unfolding(crate::specs::inner::Half::octets_apart))]
 fn octets_apart(octets: u64) -> u64
     ensures { result ≡ octets_apart octets }
 {
@@ -44,7 +48,7 @@ fn pairs_of(register: u32, sync: u32, block: usize) -> u64
     ensures { result ≡ packed (pairs_of register) * 4 + header_of (digit 32 sync block) }
 {
     let header = 2 - ((sync >> (31 - block)) & 1);
-    (fill::pairs(register) << 2) as u64 + header as u64
+    u64::from(fill::pairs(register) << 2) + u64::from(header)
 }
 
 // A multiblock that carries a sync word and 32 blocks of data, over the start of `lane`, and the fill register after it; nothing where it does not
@@ -56,11 +60,8 @@ pub fn write(register: u32, sync: u32, blocks: &[u64; 32], lane: &mut [u8]) -> u
     if lane.len() < OCTETS {
         return register;
     }
-    // Of a slice's elements the proof knows that they are words.
-    let words = &blocks[..];
     let mut fill = register & 0x1_ffff;
-    for block in 0..32usize {
-        let own = words[block];
+    for (block, &own) in blocks.iter().enumerate() {
         let pairs = pairs_of(fill, sync, block);
         let upper = half_of(pairs, own >> 32);
         let lower = half_of(pairs >> 8, own);
@@ -72,24 +73,26 @@ pub fn write(register: u32, sync: u32, blocks: &[u64; 32], lane: &mut [u8]) -> u
 }
 
 // The four octets of half a block.
+#[tactic(auto, unfolding(crate::specs::inner::Half::gathered))]
 fn data_of(half: u64) -> u64
     ensures { result ≡ gathered half }
 {
     ((half >> 30) % 256 << 24) + ((half >> 20) % 256 << 16) + ((half >> 10) % 256 << 8) + half % 256
 }
 
-// The multiblock at the start of `lane`; past the end of the lane bits are 0. What stands in the gaps is not read.
-fn gather(lane: &[u8]) -> Multiblock
+// The multiblock on a lane of its length, which the compiler knows, so that the loop tests none. What stands in the gaps is not read.
+fn gather(lane: &[u8; OCTETS]) -> Multiblock
     ensures octets_value { result.octets ≡ data_octets 2 (bit_at lane.now) 0 }
-    ensures first_value { result.first ≡ number (first_bit 2 (bit_at lane.now) 0) 0 32 }
-    ensures second_value { result.second ≡ number (second_bit 2 (bit_at lane.now) 0) 0 32 }
+    ensures first_value { result.headers.first ≡ number (first_bit 2 (bit_at lane.now) 0) 0 32 }
+    ensures second_value { result.headers.second ≡ number (second_bit 2 (bit_at lane.now) 0) 0 32 }
 {
     let mut octets = [0u8; 256];
     let mut first: u32 = 0;
     let mut second: u32 = 0;
-    for block in 0..32usize {
-        let upper = bits::word_at(lane, 10 * block);
-        let lower = bits::word_at(lane, 10 * block + 2);
+    let (blocks, _) = lane.as_chunks::<10>();
+    for (block, own) in blocks.iter().enumerate() {
+        let upper = bits::word_at(own, 0);
+        let lower = bits::word_at(own, 2);
         let header = (upper >> 62) as u32;
         first = (first << 1) | (header >> 1);
         second = (second << 1) | (header & 1);
@@ -98,23 +101,18 @@ fn gather(lane: &[u8]) -> Multiblock
     }
     Multiblock {
         octets,
-        first,
-        second,
+        headers: Headers { first, second },
     }
 }
 
-// The multiblock at the start of `lane`; nothing where it is too short. The part is of a length that the compiler knows, so that the loop tests none.
+// The multiblock at the start of `lane`; nothing where it is too short.
 pub fn read(lane: &[u8]) -> Multiblock
     ensures octets_value { result.octets ≡ data_octets 2 (lane_read 2 lane.now) 0 }
-    ensures first_value { result.first ≡ number (first_bit 2 (lane_read 2 lane.now) 0) 0 32 }
-    ensures second_value { result.second ≡ number (second_bit 2 (lane_read 2 lane.now) 0) 0 32 }
+    ensures first_value { result.headers.first ≡ number (first_bit 2 (lane_read 2 lane.now) 0) 0 32 }
+    ensures second_value { result.headers.second ≡ number (second_bit 2 (lane_read 2 lane.now) 0) 0 32 }
 {
-    if lane.len() < OCTETS {
-        return Multiblock {
-            octets: [0u8; 256],
-            first: 0,
-            second: 0,
-        };
+    match lane.first_chunk() {
+        Some(whole) => gather(whole),
+        None => blocks::NOTHING,
     }
-    gather(&lane[0..OCTETS])
 }

@@ -1,20 +1,21 @@
 -- What loops over the 32 blocks of a multiblock gather and lay down, over any gap between the data octets: clauses 7.1.2, 7.1.3 and 7.2.5.
 -- Assumes nothing.
 use mathlib.Core.Bool.{Bool, true, false}
-use mathlib.Core.List.{List}
+use mathlib.Core.List.{List, []}
 use mathlib.Core.Path.{◌≡◌, refl, sym, ap, ap₂, ◌∙◌, subst}
-use Prim.Native.Nat.{ℕ, ◌+◌, ◌-◌, ◌*◌, ◌/◌, ◌%◌, ◌^◌, ◌≤◌, ◌<◌}
+use Prim.Native.Nat.{ℕ, zero, suc, ◌+◌, ◌-◌, ◌*◌, ◌/◌, ◌%◌, ◌^◌, ◌≤◌, ◌<◌}
 use native.Mathlib.Nat.{add-zero, zero-add, add-mul, div-add-mod'}
 use native.Mathlib.Omega.{arith}
 use lib.Bits.{bit_and, bit_or, and_mask, or_shifted}
 use lib.Dec.{eqb, lit≤}
-use lib.ListN.{length, get_or}
+use lib.ListN.{length, get_or, drop}
 use lib.Pow.{shl_exact}
+use Rattle.std.specs.Simd.{first_chunks}
 use Rattle.bits.specs.Choice.{pick}
 use Rattle.bits.specs.Order.{bit_at, digit, number, octets_of, word_bit, laid}
 use Rattle.bits.proofs.Numbers.{number_more, number-two, number_lt, number-ext}
 use Rattle.bits.proofs.Xor.{bit-cases}
-use Rattle.bits.proofs.Octets.{length-octets_of, bit-octets_of}
+use Rattle.bits.proofs.Octets.{length-octets_of, bit-octets_of, bit-take, bit-drop}
 use Rattle.bits.proofs.Laid.{laid-all}
 use Rattle.bits.proofs.WordLists.{word_bit-lt, number_word}
 use Rattle.fill.specs.Register.{register_after, shifts}
@@ -25,6 +26,22 @@ use Rattle.frame.proofs.Lane.{offset-lt, fill-lt, multiblock-at, block-data, blo
 use Rattle.frame.proofs.Reading.{first-lt, second_lt}
 
 -- ---- reading
+
+-- bit j of piece b of a lane cut into pieces of n octets
+piece-bit : (n k : ℕ) (lane : List ℕ) (b j : ℕ) → b < k → j < 8 * n → bit_at (get_or (first_chunks n k lane) b []) j ≡ bit_at lane (8 * (b * n) + j)
+piece-bit n zero lane b j hb hj = elim hb [ ]
+piece-bit n (suc k) lane zero j hb hj = bit-take n lane j hj ∙ ap (bit_at lane) (omega arith)
+piece-bit n (suc k) lane (suc b) j hb hj =
+    piece-bit n k (drop n lane) b j (omega arith) hj
+    ∙ bit-drop n lane (8 * (b * n) + j)
+    ∙ ap (bit_at lane) (omega (arith, add-mul 1 b n))
+
+-- a word of it
+pub piece-word : (n k : ℕ) {pieces : List (List ℕ)} (lane : List ℕ) (b at place : ℕ) → pieces ≡ first_chunks n k lane → b < k → at + 64 ≤ 8 * n
+    → place ≡ 8 * (b * n) + at → number (bit_at (get_or pieces b [])) at 64 ≡ number (bit_at lane) place 64
+piece-word n k lane b at place e hb ha p =
+    rw e (number-ext (bit_at (get_or (first_chunks n k lane) b [])) (bit_at lane) at place 64
+    (λ j q. piece-bit n k lane b (at + j) hb (omega arith) ∙ ap (bit_at lane) (omega (arith, p))))
 
 -- bits << 1 | bit
 bit-more : (f : ℕ → ℕ) → ((k : ℕ) → f k < 2) → (n word bit : ℕ) → n < 32 → word ≡ number f 0 n → bit ≡ f n → bit_or (word * 2 ^ 1 % 2 ^ 32) bit ≡ number f 0 (n + 1)

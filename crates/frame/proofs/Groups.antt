@@ -3,7 +3,7 @@
 use mathlib.Core.Path.{◌≡◌, refl, sym, ap, ap₂, ◌∙◌, subst}
 use mathlib.Core.Bool.{Bool, ◌&&◌}
 use Prim.Native.Nat.{ℕ, zero, suc, ◌+◌, ◌-◌, ◌*◌, ◌/◌, ◌%◌, ◌^◌, ◌≤◌, ◌<◌}
-use native.Mathlib.Nat.{add-zero, zero-mul, add-suc, zero-add, mod-mod, mod-one, mod-eq_of_lt, mod-lt, le_refl}
+use native.Mathlib.Nat.{add-zero, add-suc, zero-add, mod-mod, mod-one, mod-eq_of_lt, mod-lt, le_refl}
 use native.Mathlib.Omega.{arith}
 use borrow.Author.Tests.{eq-eqb, ne_eqb}
 use lib.Dec.{T, ltb, leb, eqb, ltb→lt, leb→le}
@@ -16,7 +16,6 @@ use Rattle.parity.specs.Codeword.{joined}
 use Rattle.parity.proofs.Groups.{joined-ext, joined_number, joined-none}
 use Rattle.frame.specs.declared.modes.Sync.{Sync}
 use Rattle.frame.specs.declared.modes.Sync.TheVariants.{Crc12, Fec, Crc3, Command}
-use Rattle.frame.specs.declared.sync.Parts.{Parts}
 use Rattle.frame.specs.Modes.{before, own, parity, layout, code, parity_width}
 use Rattle.frame.specs.Headers.{value, header_read, carries}
 use Rattle.frame.specs.Lane.{block_width, header_place, first_bit, second_bit, value_at, header_at, sync_bit}
@@ -38,23 +37,6 @@ all-bits Crc12 = refl
 all-bits Fec = refl
 all-bits Crc3 = refl
 all-bits Command = refl
-
--- where there is no part of its own
-module _ (S : Sync) (alone : parity_width S own ≡ 0) where
-  pub whole-alone : (p : Parts) → whole S p ≡ p.before % 2 ^ parity_width S before
-  unfolding whole
-  whole-alone p =
-      let w = parity_width S before in
-      ap (λ (n : ℕ). p.own % 2 ^ n * 2 ^ w + p.before % 2 ^ w) alone
-      ∙ ap (λ (x : ℕ). x * 2 ^ w + p.before % 2 ^ w) (mod-one p.own)
-      ∙ ap (λ (x : ℕ). x + p.before % 2 ^ w) (zero-mul (2 ^ w))
-      ∙ zero-add (p.before % 2 ^ w)
-
-  pub split-alone : (P : ℕ) → split S P ≡ record { before = P % 2 ^ parity_width S before; own = 0 }
-  unfolding split
-  split-alone P =
-      ap (λ (n : ℕ). record { before = P % 2 ^ parity_width S before; own = P / 2 ^ parity_width S before % 2 ^ n }) alone
-      ∙ ap (λ (x : ℕ). record { before = P % 2 ^ parity_width S before; own = x }) (mod-one (P / 2 ^ parity_width S before))
 
 pub split-lt : (S : Sync) (P : ℕ) → ((split S P).before < 2 ^ parity_width S before) × ((split S P).own < 2 ^ parity_width S own)
 unfolding split

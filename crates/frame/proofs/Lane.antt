@@ -12,7 +12,7 @@ use lib.ListN.{length, get_or, take, replicate}
 use Rattle.bits.specs.Choice.{pick}
 use Rattle.bits.specs.Order.{bit_at, digit, number}
 use Rattle.bits.proofs.Numbers.{bit_at_lt, bit-none, digit_lt, number-ext, number-zeros}
-use Rattle.bits.proofs.Octets.{length-octets_of, bit-octets_of, bit-take, octets_of-ext, octets_of-bits, octets-zeros}
+use Rattle.bits.proofs.Octets.{bit-octets_of, bit-take, octets_of-ext, octets_of-bits, octets-zeros}
 use Rattle.fill.specs.Register.{register_after, shifts, still}
 use Rattle.fill.specs.Table38.{fill_bit}
 use Rattle.fill.proofs.Registers.{moves}
@@ -300,7 +300,7 @@ module _ (gap : ℕ) (lane : List ℕ) (n : ℕ) (long : lane_octets gap ≤ n) 
       let start : block_width gap * (32 * 0 + b) ≡ block_width gap * b = ap (λ (x : ℕ). block_width gap * x) (omega arith) in
       bit-take n lane (block_width gap * (32 * 0 + b) + o) (omega (arith, start, within gap b o hb ho, long))
 
-  pub own-octets : data_octets gap (bit_at (take n lane)) 0 ≡ data_octets gap (bit_at lane) 0
+  own-octets : data_octets gap (bit_at (take n lane)) 0 ≡ data_octets gap (bit_at lane) 0
   own-octets = same-octets gap (bit_at (take n lane)) (bit_at lane) 0 own-data
     where
       place : (q : ℕ) → data_place gap 0 q ≡ block_width gap * (32 * 0 + q / 64) + (2 + q % 64 + gap * (q % 64 / 8))
@@ -313,13 +313,13 @@ module _ (gap : ℕ) (lane : List ℕ) (n : ℕ) (long : lane_octets gap ≤ n) 
           ∙ own-bit (q / 64) (2 + q % 64 + gap * (q % 64 / 8)) (omega arith) (offset-lt gap (q % 64) (omega arith))
           ∙ ap (bit_at lane) (sym (place q)))
 
-  pub own-firsts : number (first_bit gap (bit_at (take n lane)) 0) 0 32 ≡ number (first_bit gap (bit_at lane) 0) 0 32
+  own-firsts : number (first_bit gap (bit_at (take n lane)) 0) 0 32 ≡ number (first_bit gap (bit_at lane) 0) 0 32
   unfolding first_bit header_place
   own-firsts =
       number-ext (first_bit gap (bit_at (take n lane)) 0) (first_bit gap (bit_at lane) 0) 0 0 32
       (λ j q. ap (bit_at (take n lane)) (sym (add-zero _)) ∙ own-bit (0 + j) 0 (omega arith) (omega (arith, width gap)) ∙ ap (bit_at lane) (add-zero _))
 
-  pub own-seconds : number (second_bit gap (bit_at (take n lane)) 0) 0 32 ≡ number (second_bit gap (bit_at lane) 0) 0 32
+  own-seconds : number (second_bit gap (bit_at (take n lane)) 0) 0 32 ≡ number (second_bit gap (bit_at lane) 0) 0 32
   unfolding second_bit header_place
   own-seconds =
       number-ext (second_bit gap (bit_at (take n lane)) 0) (second_bit gap (bit_at lane) 0) 0 0 32
@@ -330,6 +330,20 @@ module _ (gap : ℕ) (lane : List ℕ) (n : ℕ) (long : lane_octets gap ≤ n) 
 pub read_whole : (gap : ℕ) (lane : List ℕ) → lane_octets gap ≤ length lane → lane_read gap lane ≡ bit_at lane
 unfolding lane_read
 read_whole gap lane h = ap (λ (t : Bool). bit_at (pick t lane [])) (le-leb (lane_octets gap) (length lane) h)
+
+-- its multiblock is that of its first octets, as many as a multiblock has or more
+module _ (gap n : ℕ) (lane own : List ℕ) (long : lane_octets gap ≤ n) (fits : n ≤ length lane) (is : own ≡ take n lane) where
+  whole : lane_read gap lane ≡ bit_at lane
+  whole = read_whole gap lane (omega (arith, long, fits))
+
+  pub read-octets : data_octets gap (bit_at own) 0 ≡ data_octets gap (lane_read gap lane) 0
+  read-octets = rw whole (rw is (own-octets gap lane n long))
+
+  pub read-firsts : number (first_bit gap (bit_at own) 0) 0 32 ≡ number (first_bit gap (lane_read gap lane) 0) 0 32
+  read-firsts = rw whole (rw is (own-firsts gap lane n long))
+
+  pub read-seconds : number (second_bit gap (bit_at own) 0) 0 32 ≡ number (second_bit gap (lane_read gap lane) 0) 0 32
+  read-seconds = rw whole (rw is (own-seconds gap lane n long))
 
 -- of one that is too short all bits are 0
 module _ (gap : ℕ) (lane : List ℕ) (short : length lane < lane_octets gap) where
@@ -348,7 +362,3 @@ module _ (gap : ℕ) (lane : List ℕ) (short : length lane < lane_octets gap) w
   pub no-seconds : 0 ≡ number (second_bit gap (lane_read gap lane) 0) 0 32
   unfolding second_bit
   no-seconds = sym (number-zeros (second_bit gap (lane_read gap lane) 0) (λ t. none_read (header_place gap 0 t + 1)) 0 32)
-
-pub length-data : (gap : ℕ) (lane : ℕ → ℕ) (m : ℕ) → length (data_octets gap lane m) ≡ 256
-unfolding data_octets
-length-data gap lane m = length-octets_of (data_bit gap lane m) 256

@@ -89,10 +89,6 @@ module _ (fields : List Field) (p : Parts) (c e : ℕ) where
       digit-number (λ t. held p c e (get_or fields t (fixed 0))) (λ t. held-lt p c e (get_or fields t (fixed 0))) 0 32 t h
       ∙ ap (λ (x : ℕ). held p c e (get_or fields x (fixed 0))) (zero-add t)
 
-  pub word_lt : word_by fields p c e < 2 ^ 32
-  unfolding word_by
-  word_lt = number_lt (λ t. held p c e (get_or fields t (fixed 0))) (λ t. held-lt p c e (get_or fields t (fixed 0))) 0 32
-
   -- what is written is read back: of every field whose bits stand
   pub reads-back : length fields ≡ 32 → (f : ℕ → Field) (w : ℕ) → ((k : ℕ) → k < w → position fields (f k) < 32)
       → read_by fields f w (digit 32 (word_by fields p c e)) ≡ number (λ j. held p c e (f (w - 1 - j))) 0 w
@@ -205,14 +201,6 @@ module _ (S : Sync) (p : Parts) (c e : ℕ) where
   pub reads-command : read_command S (digit 32 (sync_word S p c e)) ≡ c % 2 ^ command_width S
   unfolding held
   reads-command = reads-back (layout S) p c e s.count command (command_width S) s.commands ∙ number-whole (command_width S) c
-
--- a bit of a parity or of the command stands at one position
-module _ (S : Sync) where
-  pub one-parity-place : (whose : Whose) (k t : ℕ) → t < 32 → field_at S t ≡ parity whose k → place S (parity whose k) ≡ t
-  one-parity-place whose k t h e = eqb→eq (place S (parity whose k)) t (subst (λ (x : Field). T (first_at S t x)) e ((all-stand S).once t h))
-
-  pub one-command-place : (k t : ℕ) → t < 32 → field_at S t ≡ command k → place S (command k) ≡ t
-  one-command-place k t h e = eqb→eq (place S (command k)) t (subst (λ (x : Field). T (first_at S t x)) e ((all-stand S).once t h))
 
 pub only-flagged : (S : Sync) (a b : ℕ → Header) → ((k : ℕ) → k < command_width S → a (place S (command k)) ≡ b (place S (command k))) → flagged_command S a ≡ flagged_command S b
 unfolding flagged_command

@@ -6,7 +6,7 @@ ghost use Rattle.bits.specs.Order.{number};
 ghost use Rattle.frame.specs.Headers.{header_read, carries, invalid, header_in, invalid_among};
 
 // What a header reads as: an invalid one holds the pair seen, its first bit times 2 plus its second.
-#[derive(Clone, Copy)]
+#[derive(Clone, Copy, Debug, PartialEq, Eq)]
 pub enum Header {
     One,
     Zero,
@@ -28,56 +28,60 @@ impl Header {
     pub fn is_invalid(self) -> bool
         ensures { result ≡ invalid self }
     {
-        match self {
-            Header::One => false,
-            Header::Zero => false,
-            Header::Invalid(_) => true,
-        }
+        matches!(self, Header::Invalid(_))
     }
 }
 
 // The header of this value. A number above 3 is no header's: it is invalid too, with that number.
+#[tactic(auto, unfolding(crate::specs::Headers::header_read))]
 pub fn read(value: u8) -> Header
     ensures { result ≡ header_read value }
 {
-    if value == 1 {
-        return Header::One;
+    match value {
+        1 => Header::One,
+        2 => Header::Zero,
+        _ => Header::Invalid(value),
     }
-    if value == 2 {
-        return Header::Zero;
+}
+
+// The headers of a multiblock: their first bits and their second bits, with block 0's the highest.
+#[derive(Clone, Copy, Debug, PartialEq, Eq)]
+pub struct Headers {
+    pub first: u32,
+    pub second: u32,
+}
+
+impl Headers {
+    // The header of a block; from 32 on there is none, and 00 is read.
+    pub fn at(self, block: u32) -> Header
+        ensures { result ≡ header_in self.first self.second block }
+    {
+        if block >= 32 {
+            return read(0);
+        }
+        let place = 31 - block;
+        let value = ((self.first >> place) & 1) * 2 + ((self.second >> place) & 1);
+        read(value as u8)
     }
-    Header::Invalid(value)
-}
 
-// The header of a block; from 32 on there is none, and 00 is read.
-pub fn header_at(first: u32, second: u32, block: u32) -> Header
-    ensures { result ≡ header_in first second block }
-{
-    if block >= 32 {
-        return read(0);
+    // The bits that they carry: a header is valid where its bits differ, and then carries its second.
+    pub fn carried(self) -> u32
+        ensures { result ≡ number (λ t. carries (header_in self.first self.second t)) 0 32 }
+    {
+        self.second & (self.first ^ self.second)
     }
-    let place = 31 - block;
-    let value = ((first >> place) & 1) * 2 + ((second >> place) & 1);
-    read(value as u8)
-}
 
-// The bits that the headers carry: a header is valid where its bits differ, and then carries its second.
-pub fn carried(first: u32, second: u32) -> u32
-    ensures { result ≡ number (λ t. carries (header_in first second t)) 0 32 }
-{
-    second & (first ^ second)
-}
+    // A 1 for each header that is invalid.
+    pub(crate) fn invalid(self) -> u32
+        ensures { result ≡ number (λ t. bit_of (invalid (header_in self.first self.second t))) 0 32 }
+    {
+        self.first ^ self.second ^ 0xffff_ffff
+    }
 
-// A 1 for each header that is invalid.
-pub(crate) fn invalid(first: u32, second: u32) -> u32
-    ensures { result ≡ number (λ t. bit_of (invalid (header_in first second t))) 0 32 }
-{
-    first ^ second ^ 0xffff_ffff
-}
-
-// How many headers are invalid.
-pub fn invalid_count(first: u32, second: u32) -> u8
-    ensures { result ≡ invalid_among (header_in first second) }
-{
-    u32::count_ones(invalid(first, second)) as u8
+    // How many are invalid.
+    pub fn invalid_count(self) -> u8
+        ensures { result ≡ invalid_among (header_in self.first self.second) }
+    {
+        self.invalid().count_ones() as u8
+    }
 }

@@ -5,7 +5,7 @@ ghost use Rattle.frame.specs.Lane.{fill_bound};
 ghost use Rattle.frame.specs.Modes.{known, row, numbers_of, extent_fits, most_of_all, longest_lane};
 
 // What a sync word carries: the parity of CRC-12 and a command, the parity of FEC, the parities of CRC-3 and a command, or a command alone.
-#[derive(Clone, Copy)]
+#[derive(Clone, Copy, Debug, PartialEq, Eq)]
 pub enum Sync {
     Crc12,
     Fec,
@@ -13,7 +13,7 @@ pub enum Sync {
     Command,
 }
 
-#[derive(Clone, Copy)]
+#[derive(Clone, Copy, Debug, PartialEq, Eq)]
 pub struct Row {
     pub sync: Sync,
     pub gap: u8,
@@ -22,7 +22,7 @@ pub struct Row {
 
 // What follows from a row: parities that go with the next sync word and with their own, commands, commands with their flag and fill registers are
 // below these; words of a command; octets of a multiblock on the lane, and bits of a block; whether a burst is flipped back.
-#[derive(Clone, Copy)]
+#[derive(Clone, Copy, Debug, PartialEq, Eq)]
 pub struct Numbers {
     pub parities: u32,
     pub owns: u16,
@@ -40,53 +40,63 @@ pub const MOST: usize = 240;
 
 pub const LONGEST_LANE: usize = 320 * 200;
 
+// A mode's number is its place here.
+const ROWS: [Row; 6] = [
+    Row {
+        sync: Sync::Crc12,
+        gap: 0,
+        most: 240,
+    },
+    Row {
+        sync: Sync::Fec,
+        gap: 0,
+        most: 240,
+    },
+    Row {
+        sync: Sync::Crc12,
+        gap: 2,
+        most: 200,
+    },
+    Row {
+        sync: Sync::Fec,
+        gap: 2,
+        most: 200,
+    },
+    Row {
+        sync: Sync::Crc3,
+        gap: 0,
+        most: 240,
+    },
+    Row {
+        sync: Sync::Command,
+        gap: 0,
+        most: 240,
+    },
+];
+
+// By the row of a number that is no mode's, no call takes a multiblock.
+const NO_ROW: Row = Row {
+    sync: Sync::Crc12,
+    gap: 0,
+    most: 0,
+};
+
 // Whether a mode has this number.
 pub fn known(mode: u8) -> bool
     ensures { result ≡ known mode }
 {
-    mode < 6
+    usize::from(mode) < ROWS.len()
 }
 
-// The row of a mode. By the row of a number that is none no call takes a multiblock.
+// The row of a mode.
+#[tactic(auto, unfolding(crate::specs::Modes::row))]
 pub fn row_of(mode: u8) -> Row
     ensures { result ≡ row mode }
 {
-    match mode {
-        0 => Row {
-            sync: Sync::Crc12,
-            gap: 0,
-            most: 240,
-        },
-        1 => Row {
-            sync: Sync::Fec,
-            gap: 0,
-            most: 240,
-        },
-        2 => Row {
-            sync: Sync::Crc12,
-            gap: 2,
-            most: 200,
-        },
-        3 => Row {
-            sync: Sync::Fec,
-            gap: 2,
-            most: 200,
-        },
-        4 => Row {
-            sync: Sync::Crc3,
-            gap: 0,
-            most: 240,
-        },
-        5 => Row {
-            sync: Sync::Command,
-            gap: 0,
-            most: 240,
-        },
-        _ => Row {
-            sync: Sync::Crc12,
-            gap: 0,
-            most: 0,
-        },
+    if known(mode) {
+        ROWS[usize::from(mode)]
+    } else {
+        NO_ROW
     }
 }
 
@@ -97,36 +107,35 @@ fn fills_of(gap: u8) -> u32
     if gap == 0 { 1 } else { 0x1_ffff }
 }
 
-// The numbers that follow from a row.
+// The numbers that follow from a row. A sync word that carries no parity and no command brings what stands in `bare`.
+#[tactic(auto, unfolding(crate::specs::Lane::lane_octets, crate::specs::Lane::block_width))]
 pub fn numbers_of(row: Row) -> Numbers
     ensures { result ≡ numbers_of row }
 {
-    let sync = row.sync;
-    let width = 66 + 7 * (row.gap as u32);
-    let octets = 4 * width as usize;
-    let fills = fills_of(row.gap);
-    match sync {
+    let width = 66 + 7 * u32::from(row.gap);
+    let bare = Numbers {
+        parities: 1,
+        owns: 1,
+        commands: 1,
+        flagged: 1,
+        words: 0,
+        fills: fills_of(row.gap),
+        octets: 4 * width as usize,
+        width,
+        repairs: false,
+    };
+    match row.sync {
         Sync::Crc12 => Numbers {
             parities: 0x1000,
-            owns: 1,
             commands: 0x80,
             flagged: 0x100,
             words: 1,
-            fills,
-            octets,
-            width,
-            repairs: false,
+            ..bare
         },
         Sync::Fec => Numbers {
             parities: 0x400_0000,
-            owns: 1,
-            commands: 1,
-            flagged: 1,
-            words: 0,
-            fills,
-            octets,
-            width,
             repairs: true,
+            ..bare
         },
         Sync::Crc3 => Numbers {
             parities: 8,
@@ -134,36 +143,27 @@ pub fn numbers_of(row: Row) -> Numbers
             commands: 0x80,
             flagged: 0x100,
             words: 1,
-            fills,
-            octets,
-            width,
-            repairs: false,
+            ..bare
         },
         Sync::Command => Numbers {
-            parities: 1,
-            owns: 1,
             commands: 0x8_0000,
             flagged: 0x10_0000,
             words: 3,
-            fills,
-            octets,
-            width,
-            repairs: false,
+            ..bare
         },
     }
 }
 
 // Whether a number of multiblocks may make an extended multiblock.
+#[tactic(auto, unfolding(crate::specs::Modes::extent_fits))]
 pub fn extent_fits(e: u32) -> bool
     ensures { result ≡ extent_fits e }
 {
-    if e < 1 {
-        return false;
-    }
-    e <= 256
+    matches!(e, 1..=256)
 }
 
 // The constants are the numbers of the rows.
+#[tactic(auto, unfolding(crate::specs::Modes::most_of_all, crate::specs::Modes::longest_lane, crate::specs::Lane::lane_octets, crate::specs::Lane::block_width))]
 fn tied()
     ensures { (MOST ≡ most_of_all) × (LONGEST_LANE ≡ longest_lane) }
 {}

@@ -8,11 +8,11 @@ ghost use Rattle.frame.specs.Headers.{header_in};
 ghost use Rattle.frame.specs.Modes.{before, own, command_width};
 ghost use Rattle.frame.specs.SyncWord.{sync_word, read_parity, read_parts, read_command, flagged_command, whole, split};
 
-use crate::headers;
+use crate::headers::Headers;
 use crate::modes::Sync;
 
 // What a sync word carries of parities: of the multiblock before it, and of its own (request 5).
-#[derive(Clone, Copy)]
+#[derive(Clone, Copy, Debug, PartialEq, Eq)]
 pub struct Parts {
     pub before: u32,
     pub own: u16,
@@ -20,17 +20,11 @@ pub struct Parts {
 
 // ---- written
 
-fn wide(own: u16) -> u32
-    ensures { result ≡ own }
-{
-    own as u32
-}
-
 fn crc12_word(parts: Parts, command: u32, mark: bool) -> u32
     ensures { result ≡ sync_word Crc12 parts command (bit_of mark) }
 {
     let parity = parts.before;
-    let end = (mark as u32) << 9;
+    let end = u32::from(mark) << 9;
     let code = ((parity & 0xe00) << 20)
         ^ ((parity & 0x1c0) << 19)
         ^ ((parity & 0x38) << 18)
@@ -44,7 +38,7 @@ fn fec_word(parts: Parts, command: u32, mark: bool) -> u32
     ensures { result ≡ sync_word Fec parts command (bit_of mark) }
 {
     let parity = parts.before;
-    let end = (mark as u32) << 9;
+    let end = u32::from(mark) << 9;
     ((parity & 0x03ff_fff0) << 6) ^ ((parity & 0xf) << 5) ^ (end ^ 1)
 }
 
@@ -53,8 +47,8 @@ fn crc3_word(parts: Parts, command: u32, mark: bool) -> u32
     ensures { result ≡ sync_word Crc3 parts command (bit_of mark) }
 {
     let last = (parts.before & 7) << 29;
-    let parity = wide(parts.own);
-    let end = (mark as u32) << 9;
+    let parity = u32::from(parts.own);
+    let end = u32::from(mark) << 9;
     let code = ((parity & 0x1c0) << 15) ^ ((parity & 0x38) << 10) ^ ((parity & 7) << 5);
     let order = ((command & 0x70) << 21) ^ ((command & 0xe) << 16) ^ ((command & 1) << 11);
     last ^ code ^ order ^ (end ^ 0x1111_1501)
@@ -64,7 +58,7 @@ fn crc3_word(parts: Parts, command: u32, mark: bool) -> u32
 fn command_word(parts: Parts, command: u32, mark: bool) -> u32
     ensures { result ≡ sync_word Command parts command (bit_of mark) }
 {
-    let end = (mark as u32) << 9;
+    let end = u32::from(mark) << 9;
     let order = ((command & 0x7_0000) << 13)
         ^ ((command & 0xe000) << 12)
         ^ ((command & 0x1c00) << 11)
@@ -114,6 +108,7 @@ fn crc3_own(bits: u32) -> u16
 }
 
 // The parities that 32 sync bits carry.
+#[tactic(auto, unfolding(crate::specs::SyncWord::read_by, bits::specs::Order::number))]
 pub fn parities(sync: Sync, bits: u32) -> Parts
     ensures { result ≡ read_parts sync (digit 32 bits) }
 {
@@ -162,6 +157,7 @@ fn command_alone(bits: u32) -> u32
 }
 
 // The command that 32 sync bits carry; none with FEC.
+#[tactic(auto, unfolding(crate::specs::SyncWord::read_by, bits::specs::Order::number))]
 fn command_in(sync: Sync, bits: u32) -> u32
     ensures { result ≡ read_command sync (digit 32 bits) }
 {
@@ -185,12 +181,12 @@ fn flag_of(sync: Sync) -> u32
     }
 }
 
-// The command that 32 headers carry, by their first and their second bits; flagged where one of its own was invalid.
-pub fn command(sync: Sync, first: u32, second: u32) -> u32
-    ensures { result ≡ flagged_command sync (header_in first second) }
+// The command that 32 headers carry; flagged where one of its own was invalid.
+pub fn command(sync: Sync, headers: Headers) -> u32
+    ensures { result ≡ flagged_command sync (header_in headers.first headers.second) }
 {
-    let own = command_in(sync, headers::carried(first, second));
-    if command_in(sync, headers::invalid(first, second)) >= 1 {
+    let own = command_in(sync, headers.carried());
+    if command_in(sync, headers.invalid()) >= 1 {
         return own + flag_of(sync);
     }
     own
@@ -199,18 +195,20 @@ pub fn command(sync: Sync, first: u32, second: u32) -> u32
 // ---- a parity in two parts
 
 // A multiblock's parity from its two parts: the part that the next sync word carries is the lowest.
+#[tactic(auto, unfolding(crate::specs::SyncWord::whole))]
 pub fn whole(sync: Sync, parts: Parts) -> u32
     ensures { result ≡ whole sync parts }
 {
     match sync {
         Sync::Crc12 => parts.before % 0x1000,
         Sync::Fec => parts.before % 0x400_0000,
-        Sync::Crc3 => wide(parts.own % 0x200) * 8 + parts.before % 8,
+        Sync::Crc3 => u32::from(parts.own % 0x200) * 8 + parts.before % 8,
         Sync::Command => 0,
     }
 }
 
 // The two parts of a multiblock's parity.
+#[tactic(auto, unfolding(crate::specs::SyncWord::split))]
 pub fn split(sync: Sync, parity: u32) -> Parts
     ensures { result ≡ split sync parity }
 {

@@ -1,7 +1,6 @@
 -- By which gap a multiblock is written and read: every mode's own. Request 2. Assumes nothing.
 use mathlib.Core.Path.{◌≡◌, refl}
 use Prim.Native.Nat.{ℕ}
-use borrow.Author.Tests.{ne_eqb}
 use Rattle.frame.specs.declared.modes.Row.{Row}
 use Rattle.frame.specs.Modes.{row}
 use Rattle.frame.proofs.Rows.{of-each}
@@ -11,13 +10,3 @@ use Rattle.multiblock.specs.Shape.{shape}
 pub own-shape : (mode : ℕ) → shape (row mode).gap ≡ (row mode).gap
 unfolding shape
 own-shape = of-each (λ (R : Row). shape R.gap ≡ R.gap) (refl, (refl, (refl, (refl, (refl, (refl, tt)))))) refl
-
--- ---- by a test
-
-pub without : (gap : ℕ) → gap ≡ 0 → shape gap ≡ 0
-unfolding shape
-without gap e = rw e
-
-pub with_two : (gap : ℕ) → (gap ≡ 0 → ⊥) → shape gap ≡ 2
-unfolding shape
-with_two gap n = simp (ne_eqb gap 0 n)

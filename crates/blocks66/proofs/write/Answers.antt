@@ -32,7 +32,7 @@ loop-block-preserved c =
     let l = c.loop-block in
     let octets = octets_of (word_bit a.blocks.now) 256 in
     let own = get_or a.blocks.now l.block 0 in
-    let short : own < 2 ^ 64 = omega (arith, c.type_inv.words l.block) in
+    let short : own < 2 ^ 64 = c.fits-blocks l.block in
     let is = block-given a.blocks.now l.block (omega arith) short in
     let word = c.lane_word in (
       search rules,

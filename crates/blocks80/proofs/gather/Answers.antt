@@ -2,12 +2,13 @@ use Rattle.std.proofs.Common.{rules}
 use Prim.Native.Nat.{ℕ, ◌+◌, ◌*◌, ◌/◌, ◌%◌, ◌^◌}
 use mathlib.Core.Path.{◌≡◌, refl, ap, ap₂, ◌∙◌}
 use native.Mathlib.Omega.{arith}
+use lib.Dec.{lit≤}
 use Rattle.bits.specs.Order.{bit_at, number, laid_at}
 use Rattle.bits.proofs.Numbers.{bit_at_lt, number-none}
 use Rattle.bits.proofs.Laid.{laid_none, laid_word}
 use Rattle.frame.specs.Lane.{first_bit, second_bit, data_bit}
 use Rattle.frame.proofs.Lane.{data_bit-lt}
-use Rattle.frame.proofs.Gathering.{first_more, second_more, octets-read}
+use Rattle.frame.proofs.Gathering.{piece-word, first_more, second_more, octets-read}
 use Rattle.blocks80.proofs.Tens.{gathered-lt, header_read_lem, data-read}
 use Rattle.blocks80.proofs.gather.Goals as goal
 
@@ -27,8 +28,8 @@ loop-block-preserved c =
     let octets = c.args.lane.now in
     let lane = bit_at octets in
     let bits = bit_at_lt octets in
-    let eu : c.word_at-upper.result ≡ number lane (80 * l.block) 64 = c.word_at-upper.ensures ∙ ap (λ (x : ℕ). number lane x 64) (omega arith) in
-    let el : c.word_at-lower.result ≡ number lane (80 * l.block + 16) 64 = c.word_at-lower.ensures ∙ ap (λ (x : ℕ). number lane x 64) (omega arith) in
+    let eu : c.word_at-upper.result ≡ number lane (80 * l.block) 64 = c.word_at-upper.ensures ∙ piece-word 10 _ octets l.block 0 _ c.as_chunks.ensures.front (omega (arith, c.told-lane)) (lit≤ tt) (omega arith) in
+    let el : c.word_at-lower.result ≡ number lane (80 * l.block + 16) 64 = c.word_at-lower.ensures ∙ piece-word 10 _ octets l.block 16 _ c.as_chunks.ensures.front (omega (arith, c.told-lane)) (lit≤ tt) (omega arith) in
     let header = header_read_lem lane bits l.block c.word_at-upper.result c.word_at-lower.result eu el in
     let both : c.data_of.result * 2 ^ 32 % 2 ^ 64 + c.data_of-in-loop-block.result ≡ number (data_bit 2 lane 0) (64 * l.block) 64 =
     ap₂ (λ (x y : ℕ). x * 2 ^ 32 % 2 ^ 64 + y) c.data_of.ensures c.data_of-in-loop-block.ensures ∙ data-read lane bits l.block c.word_at-upper.result c.word_at-lower.result eu el in (

@@ -12,4 +12,4 @@ pub returns : goal.returns
 returns c =
     let a = c.args in
     let bit : digit 32 a.sync a.block ≡ bit_and (a.sync / 2 ^ (31 - a.block)) 1 = digit_at 32 a.sync a.block ∙ sym (and_mask (a.sync / 2 ^ (31 - a.block)) 1) in
-    omega (arith, bit, header_of-bit (digit 32 a.sync a.block) (digit_lt 32 a.sync a.block), c.pairs.ensures, packed_lt a.register)
+    omega (arith, c.from.ensures, c.from-2.ensures, bit, header_of-bit (digit 32 a.sync a.block) (digit_lt 32 a.sync a.block), c.pairs.ensures, packed_lt a.register)

@@ -37,7 +37,7 @@ overflow_add-upper c =
     let l = c.loop-block in
     let a = c.args in
     let own = get_or a.blocks.now l.block 0 in
-    let is = block-given a.blocks.now l.block (omega arith) (omega (arith, c.type_inv.words l.block)) in
+    let is = block-given a.blocks.now l.block (omega arith) (c.fits-blocks l.block) in
     let short = first_fits a.register a.sync (octets_of (word_bit a.blocks.now) 256) l.block l.fill c.pairs_of-pairs.result own l.invariant.1 c.pairs_of-pairs.ensures is
     c.half_of-upper.result c.half_of-lower.result c.half_of-upper.ensures c.half_of-lower.ensures in
     search (rules, short)
@@ -47,7 +47,7 @@ overflow_add-upper-in-loop-block c =
     let l = c.loop-block in
     let a = c.args in
     let own = get_or a.blocks.now l.block 0 in
-    let is = block-given a.blocks.now l.block (omega arith) (omega (arith, c.type_inv.words l.block)) in
+    let is = block-given a.blocks.now l.block (omega arith) (c.fits-blocks l.block) in
     let short = last_fits a.register a.sync (octets_of (word_bit a.blocks.now) 256) l.block l.fill c.pairs_of-pairs.result own l.invariant.1 c.pairs_of-pairs.ensures is
     c.half_of-upper.result c.half_of-lower.result c.half_of-upper.ensures c.half_of-lower.ensures in
     search (rules, short)
@@ -58,7 +58,7 @@ loop-block-preserved c =
     let a = c.args in
     let octets = octets_of (word_bit a.blocks.now) 256 in
     let own = get_or a.blocks.now l.block 0 in
-    let is = block-given a.blocks.now l.block (omega arith) (omega (arith, c.type_inv.words l.block)) in (
+    let is = block-given a.blocks.now l.block (omega arith) (c.fits-blocks l.block) in (
       search rules,
       c.next_register-fill.ensures
           ∙ ap (λ (x : ℕ). register_after x shifts) l.invariant.1

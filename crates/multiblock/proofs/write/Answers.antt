@@ -8,7 +8,7 @@ use Rattle.bits.specs.Choice.{pick}
 use Rattle.bits.specs.Order.{octets_of, word_bit, laid_at}
 use Rattle.frame.specs.Lane.{lane_octets, fill_after}
 use Rattle.frame.proofs.Lane.{no-fill, fill-kept}
-use Rattle.multiblock.proofs.Shapes.{without, with_two}
+use Rattle.multiblock.specs.Shape.{shape}
 use Rattle.multiblock.proofs.write.Goals as goal
 
 -- without gaps the register stays as it is, whether the multiblock fits or not
@@ -17,18 +17,12 @@ kept true register = sym (fill-kept register)
 kept false register = refl
 
 pub returns-then-gap-eq0-clause-value : goal.returns-then-gap-eq0-clause-value
+unfolding shape
 returns-then-gap-eq0-clause-value c = let a = c.args in
-    rw (without a.gap c.if-gap-eq0.true) (kept (leb (lane_octets 0) (length a.lane.now)) a.register)
+    rw c.if-gap-eq0.true (kept (leb (lane_octets 0) (length a.lane.now)) a.register)
 
 pub returns-then-gap-eq0-clause-lane_after : goal.returns-then-gap-eq0-clause-lane_after
+unfolding shape
 returns-then-gap-eq0-clause-lane_after c = let a = c.args in
     let octets = octets_of (word_bit a.blocks.now) 256 in
-    rw (without a.gap c.if-gap-eq0.true) (c.write.ensures ∙ ap (λ (x : List ℕ). laid_at x 0 a.lane.now) (no-fill 0 a.register a.sync octets))
-
-pub returns-clause-value : goal.returns-clause-value
-returns-clause-value c =
-    rw (with_two c.args.gap c.if-gap-eq0.false) c.write-2.ensures.value
-
-pub returns-clause-lane_after : goal.returns-clause-lane_after
-returns-clause-lane_after c =
-    rw (with_two c.args.gap c.if-gap-eq0.false) c.write-2.ensures.lane_after
+    rw c.if-gap-eq0.true (c.write.ensures ∙ ap (λ (x : List ℕ). laid_at x 0 a.lane.now) (no-fill 0 a.register a.sync octets))

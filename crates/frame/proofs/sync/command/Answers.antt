@@ -49,15 +49,15 @@ returns-then-command_in-ge1 c =
     let a = c.args in
     let bits = c.carried in
     let marks = c.invalid in
-    let own = carried-command a.sync a.first a.second bits.result _ bits.ensures c.command_in-own.ensures in
-    let wrong = invalid-command a.sync a.first a.second marks.result _ marks.ensures c.command_in.ensures in
-    ap₂ ◌+◌ own c.flag_of.ensures ∙ flagged a.sync (header_in a.first a.second) (subst (λ (x : ℕ). 1 ≤ x) wrong c.if-command_in-ge1.true)
+    let own = carried-command a.sync a.headers.first a.headers.second bits.result _ bits.ensures c.command_in-own.ensures in
+    let wrong = invalid-command a.sync a.headers.first a.headers.second marks.result _ marks.ensures c.command_in.ensures in
+    ap₂ ◌+◌ own c.flag_of.ensures ∙ flagged a.sync (header_in a.headers.first a.headers.second) (subst (λ (x : ℕ). 1 ≤ x) wrong c.if-command_in-ge1.true)
 
 pub returns : goal.returns
 returns c =
     let a = c.args in
     let bits = c.carried in
     let marks = c.invalid in
-    let own = carried-command a.sync a.first a.second bits.result _ bits.ensures c.command_in-own.ensures in
-    let wrong = invalid-command a.sync a.first a.second marks.result _ marks.ensures c.command_in.ensures in
-    own ∙ unflagged a.sync (header_in a.first a.second) (subst (λ (x : ℕ). x < 1) wrong c.if-command_in-ge1.false)
+    let own = carried-command a.sync a.headers.first a.headers.second bits.result _ bits.ensures c.command_in-own.ensures in
+    let wrong = invalid-command a.sync a.headers.first a.headers.second marks.result _ marks.ensures c.command_in.ensures in
+    own ∙ unflagged a.sync (header_in a.headers.first a.headers.second) (subst (λ (x : ℕ). x < 1) wrong c.if-command_in-ge1.false)

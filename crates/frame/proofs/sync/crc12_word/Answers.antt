@@ -4,4 +4,4 @@ use Rattle.frame.proofs.Fields.{crc12-word}
 use Rattle.frame.proofs.sync.crc12_word.Goals as goal
 
 pub returns : goal.returns
-returns c = let a = c.args in crc12-word a.parts a.command (omega arith) (omega arith) (omega arith) a.mark
+returns c = let a = c.args in rw c.from-end.ensures (crc12-word a.parts a.command (omega arith) (omega arith) (omega arith) a.mark)
