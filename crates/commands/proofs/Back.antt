@@ -10,6 +10,8 @@ use borrow.Author.Tests.{lt-ltb, le-ltb, le-leb}
 use lib.Dec.{ltb, eqb}
 use lib.ListN.{length, get_or, replicate, length-append, get_or-append}
 use lib.Seq.{get_or-append-add, ext_get_or}
+use Rattle.std.specs.Prelude.{Some}
+use Rattle.std.proofs.Math.Bool.{or-true}
 use Rattle.bits.specs.Bounds.{all_below}
 use Rattle.bits.specs.Choice.{pick}
 use Rattle.bits.specs.Order.{list_from, laid}
@@ -21,7 +23,7 @@ use Rattle.commands.specs.Words.{together, with_parity, word_in, spoilt, said, w
 use Rattle.commands.specs.Table51.{function_of}
 use Rattle.commands.specs.Writing.{message_word, commands_for, command_of, written}
 use Rattle.commands.specs.Promises.{opens, as_read}
-use Rattle.commands.specs.Reading.{meant, is_spoilt, five_bits, in_a_row, no_message, found, complete, past_padding, past_cut, payload_from, message_at, header_at, event_at, begin_from, event_from}
+use Rattle.commands.specs.Reading.{meant, is_spoilt, five_bits, in_a_row, found, complete, past_padding, past_cut, payload_from, message_at, header_at, event_at, begin_from, event_from}
 use Rattle.commands.proofs.Commands.{is-payload, is-idle, word_small, together-less}
 use Rattle.commands.proofs.Spoken.{at-word}
 use Rattle.commands.proofs.InARow.{row-off, row-exact}
@@ -159,11 +161,7 @@ module _ (n : ℕ) (words : ℕ → Word) (b code : ℕ) (payload : List ℕ) (p
   unfolding complete
   done-with =
       ap₂ (λ (f s : Bool). eqb (length payload) (function_of code).most || (f && not s)) (le-leb (function_of code).fewest (length payload) enough) (by-padding padding refl).1
-      ∙ either_way (eqb (length payload) (function_of code).most)
-    where
-      either_way : (t : Bool) → (t || true) ≡ true
-      either_way true = refl
-      either_way false = refl
+      ∙ or-true (eqb (length payload) (function_of code).most)
 
   same-payload : list_from (λ (k : ℕ). five_bits (words k)) (b + 1) (length payload) ≡ payload
   same-payload =
@@ -173,16 +171,16 @@ module _ (n : ℕ) (words : ℕ → Word) (b code : ℕ) (payload : List ℕ) (p
       let inside : k < length payload = omega (arith, h, long) in
       get_or-list (λ (k : ℕ). five_bits (words k)) (b + 1) (length payload) k inside ∙ ap five_bits (taken k inside))
 
-  pub message-back : header_at n words b code ≡ found event.Message (as_read (record { code = code; payload = payload })) b (behind + padding)
+  pub message-back : header_at n words b code ≡ found (Some (event.Message (as_read (record { code = code; payload = payload })))) b (behind + padding)
   unfolding header_at message_at payload_from
   message-back =
-      ap (λ (t : Bool). pick t (message_at n words b code (in_a_row (meant true false) words (b + 1) (function_of code).most)) (found (event.Undefined code) no_message b (past_padding n words (b + 1)))) line
+      ap (λ (t : Bool). pick t (message_at n words b code (in_a_row (meant true false) words (b + 1) (function_of code).most)) (found (Some (event.Undefined code)) b (past_padding n words (b + 1)))) line
       ∙ ap (message_at n words b code) counted
-      ∙ ap (λ (t : Bool). pick t (found event.Message (record { code = code; count = length payload; words = payload_from n words (b + 1) (length payload) }) b (past_padding n words behind)) (found (event.Cut (1 + length payload)) no_message b (past_cut n words behind (is_spoilt (words behind))))) done-with
-      ∙ ap₂ (λ (l : List ℕ) (x : ℕ). found event.Message (record { code = code; count = length payload; words = laid l (replicate 7 0) }) b x) same-payload passed
+      ∙ ap (λ (t : Bool). pick t (found (Some (event.Message (record { code = code; count = length payload; words = payload_from n words (b + 1) (length payload) }))) b (past_padding n words behind)) (found (Some (event.Cut (1 + length payload))) b (past_cut n words behind (is_spoilt (words behind))))) done-with
+      ∙ ap₂ (λ (l : List ℕ) (x : ℕ). found (Some (event.Message (record { code = code; count = length payload; words = laid l (replicate 7 0) }))) b x) same-payload passed
 
   -- and it is what a read from its header on gives
-  pub read_back : (all : ℕ) → event_from n words all b ≡ found event.Message (as_read (record { code = code; payload = payload })) b (behind + padding)
+  pub read_back : (all : ℕ) → event_from n words all b ≡ found (Some (event.Message (as_read (record { code = code; payload = payload })))) b (behind + padding)
   unfolding event_from begin_from
   read_back all =
       let none = row-off (meant true true) words b (all - b) (ap (meant true true) header) in

@@ -1,23 +1,11 @@
 -- How many words the command channel of a mode has: clause 7.3.7.3. Assumes nothing.
-use mathlib.Core.Path.{◌≡◌}
-use mathlib.Core.Bool.{true, false}
 use Prim.Native.Nat.{ℕ, ◌≤◌}
 use lib.Dec.{lit≤}
 use Rattle.bits.proofs.Choice.{pick-both}
 use Rattle.frame.specs.declared.modes.Sync.{Sync}
 use Rattle.frame.specs.declared.modes.Sync.TheVariants.{Crc12, Fec, Crc3, Command}
-use Rattle.frame.specs.declared.modes.Row.{Row}
-use Rattle.frame.specs.declared.modes.Numbers.{Numbers}
-use Rattle.frame.specs.Modes.{command_words, known, row, numbers_of}
+use Rattle.frame.specs.Modes.{command_words, known, row}
 use Rattle.commands.specs.Writing.{channel_words}
-
-pub of_none : (mode : ℕ) → known mode ≡ false → 0 ≡ channel_words mode
-unfolding channel_words
-of_none mode e = rw e
-
-pub of_row : (mode : ℕ) (R : Row) (numbers : Numbers) → known mode ≡ true → R ≡ row mode → numbers ≡ numbers_of R → numbers.words ≡ channel_words mode
-unfolding channel_words
-of_row mode R numbers e own n = rw (e, n, own)
 
 few-by-sync : (S : Sync) → command_words S ≤ 3
 few-by-sync Crc12 = lit≤ tt

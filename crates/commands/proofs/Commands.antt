@@ -1,10 +1,9 @@
 -- The words of a message are of six bits: clauses 7.3.7.3 and 7.3.7.4. Assumes nothing.
-use mathlib.Core.Path.{◌≡◌, refl, sym, ap, ap₂, ◌∙◌}
+use mathlib.Core.Path.{◌≡◌, refl}
 use mathlib.Core.Bool.{true}
 use mathlib.Core.List.{List}
 use Prim.Native.Nat.{ℕ, zero, suc, ◌+◌, ◌-◌, ◌*◌, ◌^◌, ◌≤◌, ◌<◌}
 use native.Mathlib.Nat.{lt_of_lt_of_le}
-use native.Mathlib.Numerals.{add-one}
 use native.Mathlib.Omega.{arith}
 use borrow.Author.Tests.{lt-ltb, le-ltb}
 use lib.Dec.{ltb, lit<}
@@ -13,7 +12,6 @@ use lib.Pow.{pow_mono}
 use Rattle.bits.specs.Bounds.{all_below}
 use Rattle.bits.proofs.Bounds.{one_below}
 use Rattle.bits.proofs.Choice.{pick-both}
-use Rattle.parity.specs.Codeword.{joined}
 use Rattle.parity.proofs.Groups.{joined-lt}
 use Rattle.commands.specs.Words.{together}
 use Rattle.commands.specs.Writing.{message_word}
@@ -43,10 +41,6 @@ module _ (code : ℕ) (payload : List ℕ) where
       (λ _. omega (arith, one_below 32 payload (lit< tt) below i)) (λ _. lit< tt)
 
 -- ---- words of a command
-
-pub one-more-word : (word : ℕ → ℕ) (k n v x : ℕ) → v ≡ together word k n → x ≡ word (k + n) → v * 64 + x ≡ together word k (n + 1)
-unfolding joined
-one-more-word word k n v x e w = ap₂ (λ (i j : ℕ). i * 64 + j) e w ∙ sym (ap (together word k) (add-one n))
 
 module _ (code : ℕ) (payload : List ℕ) (small : code < 32) (below : all_below 32 payload ≡ true) where
   pub together-less : (k n : ℕ) → together (message_word code payload) k n < 2 ^ (6 * n)

@@ -1,6 +1,6 @@
 -- Words put together to a command, and read from it again. Assumes nothing.
 use mathlib.Core.Path.{◌≡◌, refl, sym, ap, ap₂, subst, ◌∙◌}
-use mathlib.Core.Bool.{Bool, true, false, not, ◌&&◌, ◌||◌, true≢false}
+use mathlib.Core.Bool.{Bool, false, not, ◌&&◌, ◌||◌}
 use Prim.Native.Nat.{ℕ, zero, suc, ◌+◌, ◌-◌, ◌*◌, ◌/◌, ◌%◌, ◌^◌, ◌<◌}
 use native.Mathlib.Nat.{pow-suc, mod-lt}
 use native.Mathlib.Decide.{dec_lt}
@@ -9,6 +9,7 @@ use borrow.Author.Tests.{le-leb, lt-leb, leb-true, leb-false, eq-eqb, eqb-true, 
 use lib.Dec.{leb, ltb, eqb, lit<}
 use lib.Count.{ones}
 use lib.Pow.{shr-shr, shr_lt}
+use Rattle.std.proofs.lemmas.Bool.{and_right, or_parts, not-false}
 use Rattle.bits.specs.Choice.{pick}
 use Rattle.bits.proofs.Choice.{pick-both, parts-true}
 use Rattle.parity.specs.Codeword.{joined}
@@ -93,18 +94,13 @@ not-spoilt n v h =
     ap₂ (λ (a b : Bool). a || not b) (lt-leb (2 ^ (6 * n + 1)) (with_parity v) (unmarked n v h)) right
 
 -- and what is not spoilt is what its words make
-either : (a b : Bool) → (a || not b) ≡ false → (a ≡ false) × (b ≡ true)
-either true b e = absurd (true≢false e)
-either false true e = (refl, refl)
-either false false e = absurd (true≢false e)
-
 pub whole-command : (n c : ℕ) → spoilt n c ≡ false → c ≡ with_parity (joined 6 (word_in n c) n)
 unfolding spoilt with_parity
 whole-command n c e =
-    let both = either (leb (2 ^ (6 * n + 1)) c) (eqb (c % 2) (parity_bit (c / 2))) e in
+    let both = or_parts (leb (2 ^ (6 * n + 1)) c) (not (eqb (c % 2) (parity_bit (c / 2)))) e in
     let twice : 2 ^ (6 * n + 1) ≡ 2 ^ (6 * n) * 2 = ap (λ (k : ℕ). 2 ^ k) {x = 6 * n + 1} {y = suc (6 * n)} (omega arith) ∙ pow-suc 2 (6 * n) in
     let less : c / 2 < 2 ^ (6 * n) = omega (arith, twice, leb-false (2 ^ (6 * n + 1)) c both.0) in
-    let bit : c % 2 ≡ parity_bit (c / 2) = eqb-true (c % 2) (parity_bit (c / 2)) both.1 in
+    let bit : c % 2 ≡ parity_bit (c / 2) = eqb-true (c % 2) (parity_bit (c / 2)) (not-false _ both.1) in
     let words : joined 6 (word_in n c) n ≡ c / 2 = joined-ext 6 (word_in n c) (λ (j : ℕ). from_end (c / 2) (n - 1 - j)) n (λ j _. word-is n c j) ∙ rebuilt n (c / 2) less in
     let parts : c ≡ c / 2 * 2 + parity_bit (c / 2) = omega (arith, bit) in
     parts ∙ ap (λ (v : ℕ). v * 2 + parity_bit v) (sym words)
@@ -119,15 +115,11 @@ saying Padding = 0
 saying Spoilt = 0
 saying End = 0
 
-no-first : (a b : Bool) → b ≡ false → (a && b) ≡ false
-no-first true b e = e
-no-first false b e = refl
-
 pub said-header : (j code : ℕ) → code < 32 → j ≡ 0 → said j code ≡ Header code
 unfolding said
 said-header j code h e =
     ap (λ (b : Bool). pick b (Payload (code - 32)) (pick (eqb code 0 && ltb 0 j) Padding (Header code))) (lt-leb 32 code h)
-    ∙ ap (λ (b : Bool). pick b Padding (Header code)) (no-first (eqb code 0) (ltb 0 j) (le-ltb 0 j (omega (arith, e))))
+    ∙ ap (λ (b : Bool). pick b Padding (Header code)) (and_right (eqb code 0) (ltb 0 j) (le-ltb 0 j (omega (arith, e))))
 
 pub said-payload : (j bits : ℕ) → said j (32 + bits) ≡ Payload bits
 unfolding said

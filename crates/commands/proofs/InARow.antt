@@ -1,10 +1,13 @@
 -- Words in a row, counted from a word on.
 -- Assumes nothing.
-use mathlib.Core.Path.{◌≡◌, refl, ap, ap₂, ◌∙◌}
+use mathlib.Core.Path.{◌≡◌, refl, ap, ◌∙◌}
 use mathlib.Core.Bool.{Bool, true, false}
-use Prim.Native.Nat.{ℕ, zero, suc, ◌+◌, ◌-◌, ◌≤◌, ◌<◌}
+use Prim.Native.Nat.{ℕ, zero, suc, ◌+◌, ◌≤◌, ◌<◌}
 use native.Mathlib.Nat.{add-zero}
 use native.Mathlib.Omega.{arith}
+use native.Mathlib.Numerals.{add-one, one-add}
+use mathlib.Core.Bool.{cond}
+use Rattle.std.specs.List.{prefix_len, range_with_len}
 use Rattle.bits.specs.Choice.{pick}
 use Rattle.commands.specs.declared.words.Word.{Word}
 use Rattle.commands.specs.Reading.{in_a_row}
@@ -43,29 +46,17 @@ module _ (is : Word → Bool) (words : ℕ → Word) where
   row-meant i zero k h = absurd (omega (arith, row-none i))
   row-meant i (suc most) k h = by-counted i most k (is (words i)) refl h (λ j l. row-meant (suc i) most j l)
 
-  pub row-start : (start most : ℕ) → in_a_row is words start most ≡ 0 + in_a_row is words (start + 0) (most - 0)
-  row-start start most =
-      let here : start ≡ start + 0 = omega arith in
-      let all : most ≡ most - 0 = omega arith in
-      let same = ap₂ (in_a_row is words) here all in
-      omega (arith, same)
-
-  -- where k words in a row were counted from word `start` on
-  module _ (start most k : ℕ) where
-    pub row-passed : k < most → is (words (start + k)) ≡ true
-        → k + in_a_row is words (start + k) (most - k) ≡ k + 1 + in_a_row is words (start + (k + 1)) (most - (k + 1))
-    row-passed h e =
-        let left : most - k ≡ suc (most - (k + 1)) = omega arith in
-        let next : suc (start + k) ≡ start + (k + 1) = omega arith in
-        omega (arith, ap (in_a_row is words (start + k)) left ∙ row_on (start + k) (most - (k + 1)) e, ap (λ (i : ℕ). in_a_row is words i (most - (k + 1))) next)
-
-    pub row-stopped : is (words (start + k)) ≡ false → k + in_a_row is words (start + k) (most - k) ≡ k
-    row-stopped e = omega (arith, row-off (start + k) (most - k) e)
-
-    pub row-ended : most ≤ k → k + in_a_row is words (start + k) (most - k) ≡ k
-    row-ended h =
-        let left : most - k ≡ 0 = omega arith in
-        omega (arith, ap (in_a_row is words (start + k)) left ∙ row-none (start + k))
+  -- as the words are walked over
+  pub row-walked : (i most : ℕ) → prefix_len (λ (i : ℕ). is (words i)) (range_with_len i most) ≡ in_a_row is words i most
+  unfolding in_a_row
+  row-walked i zero = refl
+  row-walked i (suc most) =
+      ap (λ (k : ℕ). cond (is (words i)) k 0) (one-add _ ∙ ap suc (ap (λ (j : ℕ). prefix_len (λ (i : ℕ). is (words i)) (range_with_len j most)) (add-one i) ∙ row-walked (suc i) most))
+      ∙ picked (is (words i)) (suc (in_a_row is words (suc i) most))
+    where
+      picked : (b : Bool) (k : ℕ) → cond b k 0 ≡ pick b k 0
+      picked true k = refl
+      picked false k = refl
 
   -- so many words in a row, where each of them is meant and the next is not
   pub row-exact : (i count most : ℕ) → ((k : ℕ) → k < count → is (words (i + k)) ≡ true) → count ≤ most

@@ -6,10 +6,11 @@ use Prim.Native.Nat.{ℕ, zero, suc, ◌+◌, ◌-◌, ◌*◌, ◌/◌, ◌%◌
 use native.Mathlib.Nat.{zero-lt-suc, mul-zero, mul-suc, mul_comm, mul-le-mul_left, mul-mod_right, mul-add-div, mul-add-mod_self_left, mod-eq_of_lt, div-eq_of_lt, div-eq_of_lt-le}
 use native.Mathlib.Decide.{dec_lt}
 use native.Mathlib.Omega.{arith}
-use borrow.Author.Tests.{eqb-true, ltb-true, lt-ltb}
+use borrow.Author.Tests.{ltb-true, lt-ltb}
 use lib.Dec.{leb, ltb, eqb}
 use lib.ListN.{length, get_or, take, replicate}
 use lib.Seq.{ext_get_or}
+use Rattle.std.specs.Prelude.{Option, Some, None}
 use Rattle.bits.specs.Choice.{pick}
 use Rattle.bits.specs.Order.{list_from, laid}
 use Rattle.bits.proofs.Choice.{pick-both, parts-true}
@@ -25,69 +26,56 @@ use Rattle.commands.specs.declared.events.Read.{Read}
 use Rattle.commands.specs.Words.{together, with_parity, word_in, spoilt, said, word_at}
 use Rattle.commands.specs.Table51.{most_words, function_of}
 use Rattle.commands.specs.Writing.{channel_words, message_word, commands_for, command_of, written}
-use Rattle.commands.specs.Reading.{meant, is_spoilt, five_bits, in_a_row, no_message, found, complete, past_padding, past_cut, payload_from, message_at, header_at, event_at, begin_from, event_from, refusal_of, event_in, reading}
+use Rattle.commands.specs.Reading.{meant, is_spoilt, five_bits, in_a_row, found, complete, past_padding, past_cut, payload_from, message_at, header_at, event_at, begin_from, event_from, refusal_of, event_in, Reading}
 use Rattle.commands.specs.Promises.{OneEncoding}
 use Rattle.commands.proofs.Commands.{is-header, is-payload, is-idle}
 use Rattle.commands.proofs.InARow.{row-meant}
-use Rattle.commands.proofs.Answers.{list-channel}
+use Rattle.commands.proofs.Answers.{list-channel, read-refusal, list_read}
 use Rattle.commands.proofs.Digits.{whole-command, saying, saying-said}
 
 -- ---- a read that gives a message
 
-abbrev is_message : Event → Bool
-is_message event.Nothing = false
-is_message event.Message = true
-is_message (event.Cut words) = false
-is_message (event.Undefined code) = false
-
 -- it began with its header, took its payload from the words behind that, and passed the padding behind these
-record Whole (n : ℕ) (words : ℕ → Word) (r : Read) : Type 0 where
-  header : words r.begin ≡ Header r.message.code
+record Whole (n : ℕ) (words : ℕ → Word) (message : Message) (begin next : ℕ) : Type 0 where
+  header : words begin ≡ Header message.code
   most : ℕ
-  counted : r.message.count ≡ in_a_row (meant true false) words (r.begin + 1) most
-  taken : r.message.words ≡ payload_from n words (r.begin + 1) r.message.count
-  padded : r.next ≡ past_padding n words (r.begin + 1 + r.message.count)
+  counted : message.count ≡ in_a_row (meant true false) words (begin + 1) most
+  taken : message.words ≡ payload_from n words (begin + 1) message.count
+  padded : next ≡ past_padding n words (begin + 1 + message.count)
 
 module _ (n : ℕ) (words : ℕ → Word) where
-  abbrev Told : Read → Type 0
-  Told r = is_message r.event ≡ true → Whole n words r
+  abbrev Told : Option Event → ℕ → ℕ → Type 0
+  Told None begin next = Unit {0}
+  Told (Some (event.Message message)) begin next = Whole n words message begin next
+  Told (Some (event.Cut taken)) begin next = Unit {0}
+  Told (Some (event.Undefined code)) begin next = Unit {0}
 
-  header-told : (b code : ℕ) → words b ≡ Header code → Told (header_at n words b code)
+  abbrev ReadTold : Read → Type 0
+  ReadTold r = Told r.event r.begin r.next
+
+  header-told : (b code : ℕ) → words b ≡ Header code → ReadTold (header_at n words b code)
   unfolding header_at message_at
   header-told b code e =
       let most = (function_of code).most in
       let count = in_a_row (meant true false) words (b + 1) most in
       let behind = b + 1 + count in
-      pick-both Told (function_of code).defined (message_at n words b code count) (found (event.Undefined code) no_message b (past_padding n words (b + 1)))
-      (λ _. pick-both Told (complete (function_of code) count (is_spoilt (words behind)))
-      (found event.Message (record { code = code; count = count; words = payload_from n words (b + 1) count }) b (past_padding n words behind))
-      (found (event.Cut (1 + count)) no_message b (past_cut n words behind (is_spoilt (words behind))))
-      (λ _ _. record { header = e; most = most; counted = refl; taken = refl; padded = refl })
-      (λ _ m. absurd (true≢false (sym m))))
-      (λ _ m. absurd (true≢false (sym m)))
+      pick-both ReadTold (function_of code).defined (message_at n words b code count) (found (Some (event.Undefined code)) b (past_padding n words (b + 1)))
+      (λ _. pick-both ReadTold (complete (function_of code) count (is_spoilt (words behind)))
+      (found (Some (event.Message (record { code = code; count = count; words = payload_from n words (b + 1) count }))) b (past_padding n words behind))
+      (found (Some (event.Cut (1 + count))) b (past_cut n words behind (is_spoilt (words behind))))
+      (λ _. record { header = e; most = most; counted = refl; taken = refl; padded = refl }) (λ _. tt))
+      (λ _. tt)
 
-  at_told : (b : ℕ) (w : Word) → words b ≡ w → Told (event_at n words b w)
-  at_told b (Header code) e m = header-told b code e m
-  at_told b (Payload bits) e m = absurd (true≢false (sym m))
-  at_told b Padding e m = absurd (true≢false (sym m))
-  at_told b Spoilt e m = absurd (true≢false (sym m))
-  at_told b End e m = absurd (true≢false (sym m))
+  at_told : (b : ℕ) (w : Word) → words b ≡ w → ReadTold (event_at n words b w)
+  at_told b (Header code) e = header-told b code e
+  at_told b (Payload bits) e = tt
+  at_told b Padding e = tt
+  at_told b Spoilt e = tt
+  at_told b End e = tt
 
-  from_told : (all from : ℕ) → Told (event_from n words all from)
+  from_told : (all from : ℕ) → ReadTold (event_from n words all from)
   unfolding event_from
   from_told all from = at_told (begin_from n words all from) (words (begin_from n words all from)) refl
-
--- a list that is refused gives no message, and one that is not has a command channel
-read_told : (mode : ℕ) (commands : List ℕ) (from : ℕ) → is_message (reading mode commands from).event ≡ true
-    → (1 ≤ channel_words mode) × Whole (channel_words mode) (word_at (channel_words mode) commands) (reading mode commands from)
-unfolding reading event_in
-read_told mode commands from =
-    let n = channel_words mode in
-    let refusal = refusal_of mode commands in
-    pick-both (λ (r : Read). is_message r.event ≡ true → (1 ≤ n) × Whole n (word_at n commands) r) (eqb refusal 0)
-    (event_in n commands from) (record { refusal = refusal; event = event.Nothing; message = no_message; begin = from; next = from })
-    (λ ok m. (list-channel mode commands (eqb-true refusal 0 ok), from_told n (word_at n commands) (n * length commands) from m))
-    (λ _ m. absurd (true≢false (sym m)))
 
 -- ---- what each of its words says
 
@@ -113,7 +101,7 @@ abbrev payload_of : Message → List ℕ
 payload_of message = take message.count message.words
 
 -- a message that is read from word 0 on, and whose words are `all`
-module _ (n : ℕ) (words : ℕ → Word) (message : Message) (all : ℕ) (whole : Whole n words (found event.Message message 0 all)) where
+module _ (n : ℕ) (words : ℕ → Word) (message : Message) (all : ℕ) (whole : Whole n words message 0 all) where
   abbrev count : ℕ
   count = message.count
 
@@ -220,7 +208,7 @@ how-many n count (suc k) some h none = by (dec_lt (n * k) (1 + count))
 
 -- ---- so that the list is what is written
 
-module _ (n : ℕ) (commands : List ℕ) (message : Message) (some : 1 ≤ n) (whole : Whole n (word_at n commands) (found event.Message message 0 (n * length commands))) where
+module _ (n : ℕ) (commands : List ℕ) (message : Message) (some : 1 ≤ n) (whole : Whole n (word_at n commands) message 0 (n * length commands)) where
   abbrev words : ℕ → Word
   words = word_at n commands
 
@@ -247,7 +235,10 @@ module _ (n : ℕ) (commands : List ℕ) (message : Message) (some : 1 ≤ n) (w
       (λ k h. each-command k h ∙ ap command {x = k} {y = 0 + k} (omega arith) ∙ sym (get_or-list command 0 many k (omega (arith, as_many))))
 
 pub only_that : OneEncoding
+unfolding event_in
 only_that mode commands message e =
     let n = channel_words mode in
-    let told = read_told mode commands 0 (ap (λ (r : Read). is_message r.event) e) in
-    whole-written n commands message told.0 (subst (Whole n (word_at n commands)) e told.1)
+    let ok : refusal_of mode commands ≡ 0 = sym (read-refusal mode commands 0) ∙ ap (λ (r : Reading). r.refusal) e in
+    let same = list_read mode commands 0 (refusal_of mode commands) refl ok n refl ∙ e in
+    whole-written n commands message (list-channel mode commands ok)
+    (subst (λ (r : Reading). Told n (word_at n commands) r.event r.begin r.next) same (from_told n (word_at n commands) (n * length commands) 0))

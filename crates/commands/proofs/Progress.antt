@@ -10,7 +10,8 @@ use native.Mathlib.Omega.{arith}
 use borrow.Author.Tests.{leb-true, leb-false, lt-ltb}
 use lib.Dec.{leb, ltb, eqb, lit<}
 use lib.ListN.{length, get_or, drop, replicate, get_or-append, length-replicate}
-use lib.Seq.{get_or-append-add, get_or-drop}
+use lib.Seq.{get_or-append_right, get_or-drop}
+use Rattle.std.specs.Prelude.{Option, Some, None}
 use Rattle.bits.specs.Choice.{pick}
 use Rattle.bits.specs.Order.{list_from, laid}
 use Rattle.bits.proofs.Choice.{pick-both}
@@ -20,11 +21,10 @@ use Rattle.commands.specs.declared.words.Word.{Word}
 use Rattle.commands.specs.declared.words.Word.TheVariants.{Header, Payload, Padding, Spoilt, End}
 use Rattle.commands.specs.declared.events.Event.{Event}
 use Rattle.commands.specs.declared.events.Event.TheVariants as event
-use Rattle.commands.specs.declared.events.Message.{Message}
 use Rattle.commands.specs.declared.events.Read.{Read}
 use Rattle.commands.specs.Words.{word_in, spoilt, said, word_at}
 use Rattle.commands.specs.Table51.{function_of}
-use Rattle.commands.specs.Reading.{meant, is_spoilt, five_bits, in_a_row, no_message, found, complete, past_command, past_padding, past_cut, payload_from, message_at, header_at, event_at, begin_from, event_from, event_in}
+use Rattle.commands.specs.Reading.{meant, is_spoilt, five_bits, in_a_row, found, complete, past_command, past_padding, past_cut, payload_from, message_at, header_at, event_at, begin_from, event_from, event_in}
 use Rattle.commands.proofs.Table.{most-few}
 use Rattle.commands.proofs.Spoken.{at-end, past-command-above}
 use Rattle.commands.proofs.InARow.{row-none, row_on, row-off, row-le}
@@ -166,10 +166,10 @@ module _ (n : ℕ) (commands : List ℕ) where
 
 -- ---- the numbers of a message
 
-zeros-small : (zeros i : ℕ) → get_or (replicate zeros 0) i 0 < 32
+zeros-small : (many i : ℕ) → get_or (replicate many 0) i 0 < 32
 zeros-small zero i = lit< tt
-zeros-small (suc zeros) zero = lit< tt
-zeros-small (suc zeros) (suc i) = zeros-small zeros i
+zeros-small (suc many) zero = lit< tt
+zeros-small (suc many) (suc i) = zeros-small many i
 
 -- a list laid over zeros: its own numbers, and then 0
 laid-small : (new : List ℕ) → ((i : ℕ) → i < length new → get_or new i 0 < 32) → (zeros i : ℕ) → get_or (laid new (replicate zeros 0)) i 0 < 32
@@ -179,27 +179,22 @@ laid-small new h zeros i = by (dec_lt i (length new))
     by : Dec (i < length new) → get_or (new ++ drop (length new) (replicate zeros 0)) i 0 < 32
     by (yes low) = rw (get_or-append new (drop (length new) (replicate zeros 0)) 0 i low) (h i low)
     by (no over) =
-        let here : i ≡ length new + (i - length new) = omega arith in
-        let there : length new + (i - length new) ≡ i = omega arith in
-        let value : get_or (new ++ drop (length new) (replicate zeros 0)) i 0 ≡ get_or (replicate zeros 0) i 0
-        = ap (λ (k : ℕ). get_or (new ++ drop (length new) (replicate zeros 0)) k 0) here
-        ∙ get_or-append-add new (drop (length new) (replicate zeros 0)) (i - length new) 0
-        ∙ get_or-drop (length new) (replicate zeros 0) (i - length new) 0
-        ∙ ap (λ (k : ℕ). get_or (replicate zeros 0) k 0) there in
-        rw value (zeros-small zeros i)
+        let past : length new ≤ i = omega arith in
+        rw (get_or-append_right new (drop (length new) (replicate zeros 0)) i 0 past, get_or-drop {A = ℕ} (length new) (replicate zeros 0) (i - length new) 0)
+        (zeros-small zeros (length new + (i - length new)))
 
 -- what is told of an event from word b, after which reading goes on at word `next`: small numbers, and as many words as were taken
-abbrev pub Told : ℕ → ℕ → ℕ → Event → Message → Type 0
-Told all b next event.Nothing m = (b ≡ all) × (next ≡ b)
-Told all b next event.Message m = (m.count ≤ 7) × (length m.words ≡ 7) × (m.code < 32) × ((i : ℕ) → get_or m.words i 0 < 32) × (b + 1 + m.count ≤ next)
-Told all b next (event.Cut words) m = (words ≤ 8) × (b + 1 ≤ next)
-Told all b next (event.Undefined code) m = (code < 32) × (b + 1 ≤ next)
+abbrev pub Told : ℕ → ℕ → ℕ → Option Event → Type 0
+Told last b next None = (b ≡ last) × (next ≡ b)
+Told last b next (Some (event.Message m)) = (m.count ≤ 7) × (length m.words ≡ 7) × (m.code < 32) × ((i : ℕ) → get_or m.words i 0 < 32) × (b + 1 + m.count ≤ next)
+Told last b next (Some (event.Cut words)) = (words ≤ 8) × (b + 1 ≤ next)
+Told last b next (Some (event.Undefined code)) = (code < 32) × (b + 1 ≤ next)
 
 pub record Relied (all from : ℕ) (r : Read) : Type 0 where
   pub behind : from ≤ r.begin
   pub begins : r.begin ≤ all
   pub stays : r.next ≤ all
-  pub told : Told all r.begin r.next r.event r.message
+  pub told : Told all r.begin r.next r.event
 
 module _ (n : ℕ) (commands : List ℕ) (some : 1 ≤ n) where
   abbrev words : ℕ → Word
@@ -222,8 +217,8 @@ module _ (n : ℕ) (commands : List ℕ) (some : 1 ≤ n) where
       let cut = past-cut-inside n commands some behind h in
       let payload = payload-told (b + 1) count few in
       pick-both (Relied (all n commands) from) (complete (function_of code) count (is_spoilt (words behind)))
-      (found event.Message (record { code = code; count = count; words = payload_from n words (b + 1) count }) b (past_padding n words behind))
-      (found (event.Cut (1 + count)) no_message b (past_cut n words behind (is_spoilt (words behind))))
+      (found (Some (event.Message (record { code = code; count = count; words = payload_from n words (b + 1) count }))) b (past_padding n words behind))
+      (found (Some (event.Cut (1 + count))) b (past_cut n words behind (is_spoilt (words behind))))
       (λ _. record { behind = f; begins = omega (arith, h); stays = padding.1; told = (few, payload.0, small, payload.1, padding.0) })
       (λ _. record { behind = f; begins = omega (arith, h); stays = cut.1; told = (omega (arith, few), omega (arith, cut.0)) })
 
@@ -233,7 +228,7 @@ module _ (n : ℕ) (commands : List ℕ) (some : 1 ≤ n) where
       let count = in_a_row (meant true false) words (b + 1) (function_of code).most in
       let padding = past-padding-inside n commands some (b + 1) (omega (arith, h)) in
       let few : count ≤ 7 = omega (arith, row-le (meant true false) words (b + 1) (function_of code).most, most-few code) in
-      pick-both (Relied (all n commands) from) (function_of code).defined (message_at n words b code count) (found (event.Undefined code) no_message b (past_padding n words (b + 1)))
+      pick-both (Relied (all n commands) from) (function_of code).defined (message_at n words b code count) (found (Some (event.Undefined code)) b (past_padding n words (b + 1)))
       (λ _. message-relied from b code count f (row_inside n commands some (meant true false) refl (b + 1) (function_of code).most (omega (arith, h))) small few)
       (λ _. record { behind = f; begins = omega (arith, h); stays = padding.1; told = (small, padding.0) })
 
@@ -264,11 +259,11 @@ module _ (n : ℕ) (commands : List ℕ) (some : 1 ≤ n) where
       stop (no over) e = omega (arith, h, row-le (meant true true) words from (all n commands - from))
 
   -- each read goes on, but at the list's end
-  goes : (from : ℕ) (r : Read) (e : Event) → r.event ≡ e → from < all n commands → Relied (all n commands) from r → from < r.next
-  goes from r event.Nothing e h x = let t = subst (λ (v : Event). Told (all n commands) r.begin r.next v r.message) e x.told in omega (arith, h, t.0, t.1)
-  goes from r event.Message e h x = let t = subst (λ (v : Event). Told (all n commands) r.begin r.next v r.message) e x.told in omega (arith, x.behind, t.4)
-  goes from r (event.Cut w) e h x = let t = subst (λ (v : Event). Told (all n commands) r.begin r.next v r.message) e x.told in omega (arith, x.behind, t.1)
-  goes from r (event.Undefined code) e h x = let t = subst (λ (v : Event). Told (all n commands) r.begin r.next v r.message) e x.told in omega (arith, x.behind, t.1)
+  goes : (from : ℕ) (r : Read) (e : Option Event) → r.event ≡ e → from < all n commands → Relied (all n commands) from r → from < r.next
+  goes from r None e h x = let t = subst (Told (all n commands) r.begin r.next) e x.told in omega (arith, h, t.0, t.1)
+  goes from r (Some (event.Message m)) e h x = let t = subst (Told (all n commands) r.begin r.next) e x.told in omega (arith, x.behind, t.4)
+  goes from r (Some (event.Cut w)) e h x = let t = subst (Told (all n commands) r.begin r.next) e x.told in omega (arith, x.behind, t.1)
+  goes from r (Some (event.Undefined code)) e h x = let t = subst (Told (all n commands) r.begin r.next) e x.told in omega (arith, x.behind, t.1)
 
   pub goes_on : (from : ℕ) → from < all n commands → from < (event_in n commands from).next
   goes_on from h = goes from (event_in n commands from) (event_in n commands from).event refl h (relied from (omega (arith, h)))

@@ -7,14 +7,14 @@ use native.Mathlib.Nat.{mul-add}
 use native.Mathlib.Decide.{dec_lt}
 use native.Mathlib.Omega.{arith}
 use lib.ListN.{length, length-append}
+use Rattle.std.specs.Prelude.{Some}
 use Rattle.bits.specs.Bounds.{all_below}
 use Rattle.bits.specs.Order.{list_from}
 use Rattle.frame.specs.Modes.{row}
 use Rattle.commands.specs.declared.events.Event.TheVariants as event
-use Rattle.commands.specs.declared.events.Read.{Read}
 use Rattle.commands.specs.Words.{word_at}
 use Rattle.commands.specs.Writing.{channel_words, commands_for}
-use Rattle.commands.specs.Reading.{found, event_in, reading, refusal_of}
+use Rattle.commands.specs.Reading.{found, event_in, Reading, unrefused, reading, refusal_of}
 use Rattle.commands.specs.Promises.{Channels, Given, as_read, encoded, Accepted, opens, ReadsBack, OneEncoding, GoesOn, reads, place_after, Finishes, all_encoded, AllAccepted, all_read, AllReadBack}
 use Rattle.commands.proofs.Entry.{channel, line_defined, code-small, fits, enough, not-long}
 use Rattle.commands.proofs.Answers.{list-channel, read-refusal, list_read}
@@ -79,7 +79,7 @@ module _ (mode : ℕ) (m : Given) (ok : Accepted mode m) (before after : List �
       ∙ ap (word_at n list) {x = n * count} {y = n * length (encoded mode m) + 0} (omega (arith, ap (λ (k : ℕ). n * k) size_is))
       ∙ word-behind n some (encoded mode m) after 0
 
-  message-stands : event_in n (before ++ list) b ≡ found event.Message (as_read m) b (n * (length before + length (encoded mode m)))
+  message-stands : event_in n (before ++ list) b ≡ found (Some (event.Message (as_read m))) b (n * (length before + length (encoded mode m)))
   unfolding event_in
   message-stands =
       read_back n (word_at n (before ++ list)) b m.code m.payload padding few
@@ -88,17 +88,17 @@ module _ (mode : ℕ) (m : Given) (ok : Accepted mode m) (before after : List �
       (λ k h. stands (1 + k) (b + 1 + k) (omega arith) ∙ says-payload n some m.code small m.payload below after k h)
       (λ k h. stands (1 + size + k) (b + 1 + size + k) (omega arith) ∙ says-padding n some m.code small m.payload below after (1 + size + k) (omega arith) (omega (arith, h)))
       (word_at n after 0) follows opening (n * length (before ++ list))
-      ∙ ap (found event.Message (as_read m) b) {x = b + 1 + size + padding} {y = n * (length before + length (encoded mode m))}
+      ∙ ap (found (Some (event.Message (as_read m))) b) {x = b + 1 + size + padding} {y = n * (length before + length (encoded mode m))}
       (omega (arith, inside, mul-add n (length before) (length (encoded mode m)), ap (λ (k : ℕ). n * k) size_is))
 
 -- a read that is not refused is its list's event
-as-event : (mode : ℕ) (commands : List ℕ) (from : ℕ) → refusal_of mode commands ≡ 0 → reading mode commands from ≡ event_in (channel_words mode) commands from
+as-event : (mode : ℕ) (commands : List ℕ) (from : ℕ) → refusal_of mode commands ≡ 0 → reading mode commands from ≡ unrefused (event_in (channel_words mode) commands from)
 as-event mode commands from ok = sym (list_read mode commands from (refusal_of mode commands) refl ok (channel_words mode) refl)
 
 pub reads-back : ReadsBack
 reads-back mode m ok before after opening taken =
     let commands = before ++ (encoded mode m ++ after) in
-    as-event mode commands (channel_words mode * length before) (sym (read-refusal mode commands 0) ∙ taken) ∙ message-stands mode m ok before after opening
+    as-event mode commands (channel_words mode * length before) (sym (read-refusal mode commands 0) ∙ taken) ∙ ap unrefused (message-stands mode m ok before after opening)
 
 -- ---- one message has one encoding
 
@@ -112,8 +112,8 @@ goes-on-reading mode commands from taken =
     let ok : refusal_of mode commands ≡ 0 = sym (read-refusal mode commands from) ∙ taken in
     let some = list-channel mode commands ok in
     let same = as-event mode commands from ok in (
-      (λ h. subst (λ (r : Read). from < r.next) (sym same) (goes_on (channel_words mode) commands some from h)),
-      (λ h. same ∙ sym (from_past (channel_words mode) commands from some h)),
+      (λ h. subst (λ (r : Reading). from < r.next) (sym same) (goes_on (channel_words mode) commands some from h)),
+      (λ h. same ∙ ap unrefused (sym (from_past (channel_words mode) commands from some h))),
     )
 
 module _ (mode : ℕ) (commands : List ℕ) (ok : refusal_of mode commands ≡ 0) where
@@ -128,13 +128,13 @@ module _ (mode : ℕ) (commands : List ℕ) (ok : refusal_of mode commands ≡ 0
   after-reads zero from h enough = omega (arith, h, enough)
   after-reads (suc n) from h enough =
       let next = (reading mode commands from).next in
-      let same = ap (λ (r : Read). r.next) (as-event mode commands from ok) in
+      let same = ap (λ (r : Reading). r.next) (as-event mode commands from ok) in
       after-reads n next (omega (arith, same, stays-inside (channel_words mode) commands some_words from h)) (omega (arith, by_place (dec_lt from all)))
     where
       by_place : Dec (from < all) → all ≤ (reading mode commands from).next + n
-      by_place (yes inside) = omega (arith, enough, ap (λ (r : Read). r.next) (as-event mode commands from ok), goes_on (channel_words mode) commands some_words from inside)
+      by_place (yes inside) = omega (arith, enough, ap (λ (r : Reading). r.next) (as-event mode commands from ok), goes_on (channel_words mode) commands some_words from inside)
       by_place (no past) =
-          omega (arith, past, ap (λ (r : Read). r.next) (as-event mode commands from ok ∙ sym (from_past (channel_words mode) commands from some_words (omega (arith, past)))))
+          omega (arith, past, ap (λ (r : Reading). r.next) (as-event mode commands from ok ∙ ap unrefused (sym (from_past (channel_words mode) commands from some_words (omega (arith, past))))))
 
 pub finishes : Finishes
 finishes mode commands taken = after-reads mode commands (sym (read-refusal mode commands 0) ∙ taken) (channel_words mode * length commands) 0 (omega arith) (omega arith)
@@ -158,19 +158,19 @@ module _ (mode : ℕ) (commands : List ℕ) (taken : refusal_of mode commands �
       let from = channel_words mode * length before in
       let size : length commands ≡ length before = ap length e ∙ length-append before [] ∙ omega arith in
       let past : channel_words mode * length commands ≤ from = omega (arith, ap (λ (k : ℕ). channel_words mode * k) size) in
-      ap (λ (r : Read). r ∷ []) (as-event mode commands from taken ∙ sym (from_past (channel_words mode) commands from (list-channel mode commands taken) past))
+      ap (λ (r : Reading). r ∷ []) (as-event mode commands from taken ∙ ap unrefused (sym (from_past (channel_words mode) commands from (list-channel mode commands taken) past)))
   all_back before (m ∷ messages) (ok, rest) e =
       let n = channel_words mode in
       let from = n * length before in
       let next = from + n * length (encoded mode m) in
       let split : n * (length before + length (encoded mode m)) ≡ next = mul-add n (length before) (length (encoded mode m)) in
-      let first : reading mode commands from ≡ found event.Message (as_read m) from next
-      = as-event mode commands from taken ∙ ap (λ (l : List ℕ). event_in n l from) e
-      ∙ message-stands mode m ok before (all_encoded mode messages) (list-opens mode messages rest)
-      ∙ ap (found event.Message (as_read m) from) split in
+      let first : reading mode commands from ≡ unrefused (found (Some (event.Message (as_read m))) from next)
+      = as-event mode commands from taken ∙ ap (λ (l : List ℕ). unrefused (event_in n l from)) e
+      ∙ ap unrefused (message-stands mode m ok before (all_encoded mode messages) (list-opens mode messages rest))
+      ∙ ap (λ (next : ℕ). unrefused (found (Some (event.Message (as_read m))) from next)) split in
       let place : n * length (before ++ encoded mode m) ≡ next = ap (λ (k : ℕ). n * k) (length-append before (encoded mode m)) ∙ split in
-      ap₂ (λ (r : Read) (l : List Read). r ∷ l) first
-      (ap (λ (x : ℕ). reads mode commands x (suc (length messages))) (ap (λ (r : Read). r.next) first ∙ sym place)
+      ap₂ (λ (r : Reading) (l : List Reading). r ∷ l) first
+      (ap (λ (x : ℕ). reads mode commands x (suc (length messages))) (ap (λ (r : Reading). r.next) first ∙ sym place)
       ∙ all_back (before ++ encoded mode m) messages rest (e ∙ sym (append_assoc before (encoded mode m) (all_encoded mode messages)))
       ∙ ap (λ (x : ℕ). all_read mode x messages) place)
 

@@ -1,16 +1,15 @@
 -- What is promised of messages, written and read: request 6; proofs/Promised.antt holds the proofs, in this order. Assumes nothing.
-use Rattle.std.specs.Prelude.{◌≡◌, Bool, true, false, List, [], ◌∷◌, ◌++◌, ℕ, zero, suc, ◌+◌, ◌*◌, ◌≤◌, ◌<◌, length, take, replicate}
+use Rattle.std.specs.Prelude.{◌≡◌, Bool, true, false, List, [], ◌∷◌, ◌++◌, ℕ, zero, suc, ◌+◌, ◌*◌, ◌≤◌, ◌<◌, length, take, replicate, Some, None}
 use Rattle.bits.specs.Order.{list_from, laid}
 use Rattle.frame.specs.Modes.{rows}
 use Rattle.commands.specs.declared.words.Word.{Word}
 use Rattle.commands.specs.declared.words.Word.TheVariants.{Header, Payload, Padding, Spoilt, End}
 use Rattle.commands.specs.declared.events.Event.TheVariants as event
 use Rattle.commands.specs.declared.events.Message.{Message}
-use Rattle.commands.specs.declared.events.Read.{Read}
 use Rattle.commands.specs.Words.{word_at}
 use Rattle.commands.specs.Table51.{most_words}
 use Rattle.commands.specs.Writing.{channel_words, written, refusal_of}
-use Rattle.commands.specs.Reading.{no_message, found, reading}
+use Rattle.commands.specs.Reading.{found, Reading, unrefused, reading}
 
 -- mode by mode, the words of a command: CRC-12 one and FEC none, the same in blocks of 80 bits, CRC-3 one, and three in the stand-alone channel
 abbrev pub Channels : Type 0
@@ -48,14 +47,14 @@ ReadsBack =
     (mode : ℕ) (m : Given) → Accepted mode m → (before after : List ℕ) → opens (word_at (channel_words mode) after 0) ≡ true
     → let n = channel_words mode in let commands = before ++ (encoded mode m ++ after) in
     (reading mode commands 0).refusal ≡ 0
-    → reading mode commands (n * length before) ≡ found event.Message (as_read m) (n * length before) (n * (length before + length (encoded mode m)))
+    → reading mode commands (n * length before) ≡ unrefused (found (Some (event.Message (as_read m))) (n * length before) (n * (length before + length (encoded mode m))))
 
 -- ---- one message has one encoding: a list that is read whole as a message, from its first word on, is what the writer makes of that message
 
 abbrev pub OneEncoding : Type 0
 OneEncoding =
     (mode : ℕ) (commands : List ℕ) (message : Message)
-    → reading mode commands 0 ≡ found event.Message message 0 (channel_words mode * length commands)
+    → reading mode commands 0 ≡ unrefused (found (Some (event.Message message)) 0 (channel_words mode * length commands))
     → commands ≡ written (channel_words mode) message.code (take message.count message.words)
 
 -- ---- every list is read to its end
@@ -65,10 +64,10 @@ abbrev pub GoesOn : Type 0
 GoesOn =
     (mode : ℕ) (commands : List ℕ) (from : ℕ) → (reading mode commands from).refusal ≡ 0
     → (from < channel_words mode * length commands → from < (reading mode commands from).next)
-    × (channel_words mode * length commands ≤ from → reading mode commands from ≡ found event.Nothing no_message from from)
+    × (channel_words mode * length commands ≤ from → reading mode commands from ≡ unrefused (found None from from))
 
 -- so many reads, the first from a word on, and each from where the one before said
-unfoldable pub reads : ℕ → List ℕ → ℕ → ℕ → List Read
+unfoldable pub reads : ℕ → List ℕ → ℕ → ℕ → List Reading
 reads mode commands from zero = []
 reads mode commands from (suc n) = reading mode commands from ∷ reads mode commands (reading mode commands from).next n
 
@@ -94,10 +93,10 @@ AllAccepted mode [] = Unit {0}
 AllAccepted mode (m ∷ messages) = Accepted mode m × AllAccepted mode messages
 
 -- each message, from the word where it begins to that where the next does, and then nothing
-abbrev pub all_read : ℕ → ℕ → List Given → List Read
-all_read mode from [] = found event.Nothing no_message from from ∷ []
+abbrev pub all_read : ℕ → ℕ → List Given → List Reading
+all_read mode from [] = unrefused (found None from from) ∷ []
 all_read mode from (m ∷ messages) =
-    let next = from + channel_words mode * length (encoded mode m) in found event.Message (as_read m) from next ∷ all_read mode next messages
+    let next = from + channel_words mode * length (encoded mode m) in unrefused (found (Some (event.Message (as_read m))) from next) ∷ all_read mode next messages
 
 -- in a mode with a command channel
 abbrev pub AllReadBack : Type 0

@@ -1,9 +1,11 @@
 -- Messages read word by word: clauses 7.3.7.4, 7.3.7.6 and 7.6.3, Tables 56 and 57; request 6. A stream of words is a function from places to what
 -- stands there. Assumes nothing.
-use Rattle.std.specs.Prelude.{Bool, true, false, not, ◌&&◌, ◌||◌, List, [], ◌∷◌, ℕ, zero, suc, ◌+◌, ◌-◌, ◌*◌, ◌/◌, leb, eqb, length, replicate}
+use Rattle.std.specs.Prelude.{Bool, true, false, not, ◌&&◌, ◌||◌, List, [], ◌∷◌, ℕ, zero, suc, ◌+◌, ◌-◌, ◌*◌, ◌/◌, leb, eqb, length, replicate, Option, Some, None, Result, Ok, Err}
 use Rattle.bits.specs.Choice.{pick}
 use Rattle.bits.specs.Bounds.{all_below}
 use Rattle.bits.specs.Order.{list_from, laid}
+use Rattle.answers.specs.declared.Refusal.{Refusal}
+use Rattle.answers.specs.Numbers.{number}
 use Rattle.bits.specs.Refusals.{Line, ◌when◌, refusal_by}
 use Rattle.frame.specs.Modes.{row, flagged_bound}
 use Rattle.commands.specs.declared.table51.Function.{Function}
@@ -11,7 +13,6 @@ use Rattle.commands.specs.declared.words.Word.{Word}
 use Rattle.commands.specs.declared.words.Word.TheVariants.{Header, Payload, Padding, Spoilt, End}
 use Rattle.commands.specs.declared.events.Event.{Event}
 use Rattle.commands.specs.declared.events.Event.TheVariants as event
-use Rattle.commands.specs.declared.events.Message.{Message}
 use Rattle.commands.specs.declared.events.Read.{Read}
 use Rattle.commands.specs.Words.{word_at}
 use Rattle.commands.specs.Table51.{most_words, function_of}
@@ -48,11 +49,8 @@ in_a_row is words i (suc most) = pick (is (words i)) (suc (in_a_row is words (su
 
 -- ---- events
 
-unfoldable pub no_message : Message
-no_message = record { code = 0; count = 0; words = replicate most_words 0 }
-
-abbrev pub found : Event → Message → ℕ → ℕ → Read
-found event message begin next = record { refusal = 0; event = event; message = message; begin = begin; next = next }
+abbrev pub found : Option Event → ℕ → ℕ → Read
+found event begin next = record { event = event; begin = begin; next = next }
 
 -- a message is complete when it can have no more payload, or has enough and what comes behind it is not spoilt
 unfoldable pub complete : Function → ℕ → Bool → Bool
@@ -80,23 +78,23 @@ module _ (n : ℕ) (words : ℕ → Word) where
   message_at b code count =
       let behind = b + 1 + count in
       pick (complete (function_of code) count (is_spoilt (words behind)))
-      (found event.Message (record { code = code; count = count; words = payload_from (b + 1) count }) b (past_padding behind))
-      (found (event.Cut (1 + count)) no_message b (past_cut behind (is_spoilt (words behind))))
+      (found (Some (event.Message (record { code = code; count = count; words = payload_from (b + 1) count }))) b (past_padding behind))
+      (found (Some (event.Cut (1 + count))) b (past_cut behind (is_spoilt (words behind))))
 
   -- what begins with the header at word b
   unfoldable pub header_at : ℕ → ℕ → Read
   header_at b code =
       pick (function_of code).defined
       (message_at b code (in_a_row (meant true false) words (b + 1) (function_of code).most))
-      (found (event.Undefined code) no_message b (past_padding (b + 1)))
+      (found (Some (event.Undefined code)) b (past_padding (b + 1)))
 
   -- what begins at word b, which says so; where nothing begins the list has ended
   abbrev pub event_at : ℕ → Word → Read
   event_at b (Header code) = header_at b code
-  event_at b (Payload bits) = found event.Nothing no_message b b
-  event_at b Padding = found event.Nothing no_message b b
-  event_at b Spoilt = found (event.Cut 0) no_message b (past_command n b)
-  event_at b End = found event.Nothing no_message b b
+  event_at b (Payload bits) = found None b b
+  event_at b Padding = found None b b
+  event_at b Spoilt = found (Some (event.Cut 0)) b (past_command n b)
+  event_at b End = found None b b
 
   -- where the first event begins at or after a word, of so many in all: payload and padding with nothing open are skipped
   unfoldable pub begin_from : ℕ → ℕ → ℕ
@@ -117,10 +115,29 @@ refusal_of mode commands = refusal_by (refusals (channel_words mode) (flagged_bo
 unfoldable pub event_in : ℕ → List ℕ → ℕ → Read
 event_in n commands from = event_from n (word_at n commands) (n * length commands) from
 
+-- a refusal, or 0; what was read, if anything, the word with which it begins, and the word to go on from
+pub record Reading : Type 0 where
+  pub refusal : ℕ
+  pub event : Option Event
+  pub begin : ℕ
+  pub next : ℕ
+
+abbrev pub unrefused : Read → Reading
+unrefused r = record { refusal = 0; event = r.event; begin = r.begin; next = r.next }
+
+-- refused, with nothing read from a word on
+abbrev pub refused_with : ℕ → ℕ → Reading
+refused_with refusal from = record { refusal = refusal; event = None; begin = from; next = from }
+
+-- an answer, where it was asked from that word on
+abbrev pub read_as : ℕ → Result Read Refusal → Reading
+read_as from (Ok r) = unrefused r
+read_as from (Err why) = refused_with (number why) from
+
 -- refused, with nothing read; or the first event at or after a word
-unfoldable pub reading : ℕ → List ℕ → ℕ → Read
+unfoldable pub reading : ℕ → List ℕ → ℕ → Reading
 reading mode commands from =
     let refusal = refusal_of mode commands in
     pick (eqb refusal 0)
-    (event_in (channel_words mode) commands from)
-    (record { refusal = refusal; event = event.Nothing; message = no_message; begin = from; next = from })
+    (unrefused (event_in (channel_words mode) commands from))
+    (refused_with refusal from)

@@ -4,8 +4,8 @@ use Rattle.bits.specs.Choice.{pick}
 use Rattle.bits.specs.Bounds.{all_below}
 use Rattle.bits.specs.Order.{list_from, laid}
 use Rattle.bits.specs.Refusals.{Line, ◌when◌, refusal_by}
+use Rattle.answers.specs.Numbers.{Counted}
 use Rattle.frame.specs.Modes.{command_words, known, row}
-use Rattle.commands.specs.declared.Written.{Written}
 use Rattle.commands.specs.Words.{together, with_parity}
 use Rattle.commands.specs.Table51.{function_of}
 
@@ -43,10 +43,10 @@ refusal_of n code payload room = refusal_by (refusals n code payload room)
 
 -- an answer, and the commands at exit
 pub record Done : Type 0 where
-  pub answer : Written
+  pub answer : Counted
   pub commands : List ℕ
 
-abbrev pub done : Written → List ℕ → Done
+abbrev pub done : Counted → List ℕ → Done
 done answer commands = record { answer = answer; commands = commands }
 
 -- refused, with all as it was; or the message, laid over the start of the commands

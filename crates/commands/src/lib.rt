@@ -2,11 +2,15 @@
 #![tactic(auto)]
 
 ghost use Rattle.std.specs.Prelude.{◌≡◌};
+ghost use Rattle.answers.specs.Numbers.{counted};
 ghost use Rattle.commands.specs.Writing.{channel_words, done, writing};
-ghost use Rattle.commands.specs.Reading.{reading};
+ghost use Rattle.commands.specs.Reading.{read_as, reading};
 
-use events::{Event, Read};
+use answers::Refusal;
+use events::Read;
 use frame::modes;
+use words::Words;
+use writing::Given;
 
 pub mod events;
 mod reading;
@@ -15,15 +19,8 @@ mod table51;
 mod words;
 mod writing;
 
-// A refusal, or 0 with the commands written.
-#[repr(C)]
-#[derive(Clone, Copy)]
-pub struct Written {
-    pub refusal: u8,
-    pub count: usize,
-}
-
 // The words of a command of a mode: 0 where the mode is unknown or has no command channel.
+#[tactic(auto, unfolding(crate::specs::Writing::channel_words))]
 pub fn channel_words(mode: u8) -> usize
     ensures { result ≡ channel_words mode }
 {
@@ -34,33 +31,32 @@ pub fn channel_words(mode: u8) -> usize
     numbers.words
 }
 
-// The commands of a message, over the start of `commands`.
-pub fn write(mode: u8, code: u8, payload: &[u8], commands: &mut [u32]) -> Written
-    ensures { done result commands.new ≡ writing mode code payload.now commands.old }
+// The commands of a message, over the start of `commands`: how many.
+#[tactic(auto, unfolding(crate::specs::Writing::writing, crate::specs::Writing::written, crate::specs::Writing::commands_for))]
+pub fn write(mode: u8, code: u8, payload: &[u8], commands: &mut [u32]) -> Result<usize, Refusal>
+    ensures { done (counted result) commands.new ≡ writing mode code payload.now commands.old }
 {
-    let n = channel_words(mode);
-    let refusal = refusal::of_message(n, code, payload, commands.len());
-    if refusal != 0 {
-        return Written { refusal, count: 0 };
-    }
-    let count = (payload.len() + n) / n;
-    writing::put_commands(n, code, payload, commands, count);
-    Written { refusal: 0, count }
+    let each = channel_words(mode);
+    refusal::of_message(each, code, payload, commands.len())?;
+    let count = (payload.len() + each) / each;
+    let message = Given {
+        each,
+        code,
+        payload,
+    };
+    message.put(&mut commands[..count]);
+    Ok(count)
 }
 
 // The first event at or after word `from`, and the word to go on from.
-pub fn read(mode: u8, commands: &[u32], from: usize) -> Read
-    ensures { result ≡ reading mode commands.now from }
+#[tactic(auto, unfolding(crate::specs::Reading::reading))]
+pub fn read(mode: u8, commands: &[u32], from: usize) -> Result<Read, Refusal>
+    ensures { read_as from result ≡ reading mode commands.now from }
 {
-    let refusal = refusal::of_list(mode, commands);
-    if refusal != 0 {
-        return Read {
-            refusal,
-            event: Event::Nothing,
-            message: events::no_message(),
-            begin: from,
-            next: from,
-        };
-    }
-    reading::event_from(channel_words(mode), commands, from)
+    refusal::of_list(mode, commands)?;
+    let words = Words {
+        commands,
+        each: channel_words(mode),
+    };
+    Ok(words.event_from(from))
 }

@@ -1,5 +1,5 @@
 // Function codes and their payload: clause 7.3.7.6, Table 51; request 6.
-ghost use Rattle.std.specs.Prelude.{◌≡◌};
+ghost use Rattle.std.specs.Prelude.{◌≡◌, ◌≤◌};
 ghost use Rattle.commands.specs.Table51.{exactly, function_of};
 
 // Whether a code is defined, and the fewest and the most payload words behind it.
@@ -32,8 +32,10 @@ fn any_number(defined: bool) -> Function
 }
 
 // The line of a code.
+#[tactic(auto, unfolding(crate::specs::Table51::function_of))]
 pub(crate) fn function_of(code: u8) -> Function
-    ensures { result ≡ function_of code }
+    ensures line { result ≡ function_of code }
+    ensures few { result.most ≤ 7 }
 {
     match code {
         0 => exactly(0),

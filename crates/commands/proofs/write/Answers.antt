@@ -1,19 +1,17 @@
-use mathlib.Core.Path.{sym, ◌∙◌}
+use mathlib.Core.Path.{sym, ap, ◌∙◌}
+use Prim.Native.Nat.{◌+◌, ◌/◌}
 use native.Mathlib.Omega.{arith}
 use lib.ListN.{length}
+use Rattle.std.proofs.lemmas.List.{length-take-le}
+use Rattle.bits.specs.Order.{list_from}
+use Rattle.commands.specs.Writing.{command_of}
 use Rattle.commands.proofs.Channel.{words-few}
-use Rattle.commands.proofs.Entry.{channel, is-refused, ready, is-written}
+use Rattle.commands.proofs.Entry.{channel, code-small, fits, count-few, count_fits, is-written}
+use Rattle.commands.proofs.OneByOne.{laid-first}
 use Rattle.commands.proofs.write.Goals as goal
 
-pub of_message-refusal-requires : goal.of_message-refusal-requires
-of_message-refusal-requires c = rw c.channel_words-n.ensures (words-few c.args.mode)
-
-pub returns-then-refusal-ne0 : goal.returns-then-refusal-ne0
-returns-then-refusal-ne0 c =
-    let a = c.args in
-    let words = c.channel_words-n in
-    let refused = c.of_message-refusal in
-    is-refused a.mode a.code a.payload.now a.commands.now words.result words.ensures refused.result refused.ensures c.if-refusal-ne0.true
+pub of_message-requires : goal.of_message-requires
+of_message-requires c = rw c.channel_words-each.ensures (words-few c.args.mode)
 
 pub overflow_add-count : goal.overflow_add-count
 overflow_add-count c = omega (arith, words-few c.args.mode)
@@ -21,19 +19,42 @@ overflow_add-count c = omega (arith, words-few c.args.mode)
 pub nonzero_div-count : goal.nonzero_div-count
 nonzero_div-count c =
     let a = c.args in
-    let refused = c.of_message-refusal in
-    channel c.channel_words-n.result a.code a.payload.now (length a.commands.now) (sym refused.ensures ∙ c.if-refusal-ne0.false)
+    channel c.channel_words-each.result a.code a.payload.now (length a.commands.now) (sym c.in_ok-of_message.ensures)
 
-pub put_commands-requires : goal.put_commands-requires
-put_commands-requires c =
+pub invariant_of-message : goal.invariant_of-message
+invariant_of-message c =
     let a = c.args in
-    let words = c.channel_words-n in
-    let refused = c.of_message-refusal in
-    ready a.mode a.code a.payload.now a.commands.now words.result words.ensures refused.result refused.ensures c.if-refusal-ne0.false
+    let n = c.channel_words-each.result in
+    let ok = sym c.in_ok-of_message.ensures in
+    record { few = rw c.channel_words-each.ensures (words-few a.mode); small = code-small n a.code a.payload.now (length a.commands.now) ok; fits = fits n a.code a.payload.now (length a.commands.now) ok }
+
+pub slice_bounds-put-end : goal.slice_bounds-put-end
+slice_bounds-put-end c =
+    let a = c.args in
+    count_fits c.channel_words-each.result a.code a.payload.now (length a.commands.now) (sym c.in_ok-of_message.ensures)
+
+pub slice_bounds-put-end-2 : goal.slice_bounds-put-end-2
+slice_bounds-put-end-2 c =
+    let a = c.args in
+    let n = c.channel_words-each.result in
+    sym (length-take-le ((length a.payload.now + n) / n) a.commands.now (count_fits n a.code a.payload.now (length a.commands.now) (sym c.in_ok-of_message.ensures)))
+
+pub put-requires : goal.put-requires
+put-requires c =
+    let a = c.args in
+    let n = c.channel_words-each.result in
+    let ok = sym c.in_ok-of_message.ensures in
+    let long = length-take-le ((length a.payload.now + n) / n) a.commands.now (count_fits n a.code a.payload.now (length a.commands.now) ok) in
+    omega (arith, long, count-few n a.code a.payload.now (length a.commands.now) ok)
 
 pub returns : goal.returns
 returns c =
     let a = c.args in
-    let words = c.channel_words-n in
-    let refused = c.of_message-refusal in
-    is-written a.mode a.code a.payload.now a.commands.now words.result words.ensures refused.result refused.ensures c.if-refusal-ne0.false _ c.put_commands.ensures
+    let words = c.channel_words-each in
+    let n = words.result in
+    let count = (length a.payload.now + n) / n in
+    let ok = c.in_ok-of_message.ensures in
+    let long = length-take-le count a.commands.now (count_fits n a.code a.payload.now (length a.commands.now) (sym ok)) in
+    let command = command_of n a.code a.payload.now in
+    is-written a.mode a.code a.payload.now a.commands.now n words.ensures ok _
+    (laid-first command 0 count a.commands.now _ (c.put.ensures ∙ ap (list_from command 0) long))

@@ -1,22 +1,13 @@
-use Rattle.std.proofs.Common.{rules}
-use native.Mathlib.Omega.{arith}
-use Rattle.bits.proofs.Bounds.{found, passed, ended}
+use mathlib.Core.Path.{◌∙◌}
+use Prim.Native.Nat.{ℕ}
+use lib.Dec.{ltb}
+use Rattle.std.proofs.Common.{rules, tests}
+use Rattle.std.proofs.lemmas.Iterator.{YieldsList-from_slice}
+use Rattle.std.proofs.lemmas.Iterator.Search.{all_from_yields_List}
+use Rattle.bits.proofs.Bounds.{each_below}
 use Rattle.commands.proofs.refusal.payload_fits.Goals as goal
-
-pub returns-then-payload-i-ge32 : goal.returns-then-payload-i-ge32
-returns-then-payload-i-ge32 c =
-    let a = c.args in
-    let l = c.loop-i in
-    found 32 a.payload.now l.i l.invariant.1 (omega arith) c.if-payload-i-ge32.true
-
-pub loop-i-preserved : goal.loop-i-preserved
-loop-i-preserved c =
-    let a = c.args in
-    let l = c.loop-i in
-    (search rules, passed 32 a.payload.now l.i l.invariant.1 (omega arith) c.if-payload-i-ge32.false)
 
 pub returns : goal.returns
 returns c =
-    let a = c.args in
-    let l = c.loop-i in
-    ended 32 a.payload.now l.i l.invariant.1 (omega arith)
+    let xs = c.args.payload.now in
+    all_from_yields_List (λ (n : ℕ). ltb n 32) _ _ _ c.all.ensures.ran (YieldsList-from_slice xs cc) (λ x b q h. search (rules, tests)) ∙ each_below 32 xs
