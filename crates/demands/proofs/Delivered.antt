@@ -26,11 +26,11 @@ use Rattle.frame.specs.Lane.{lane_octets, data_place, data_octets}
 use Rattle.frame.proofs.Rows.{proper, all-grouped, blocks-some, one-group}
 use Rattle.frame.proofs.Places.{data_is, data-octets-bit}
 use Rattle.judge.specs.declared.Verdict.{Verdict}
-use Rattle.judge.specs.Judge.{agrees, failed, released_status, trusted_after}
+use Rattle.judge.specs.declared.Verdict.TheVariants.{Repaired}
+use Rattle.judge.specs.Judge.{status_of, place_of, pattern_of, agrees, failed, released_status, trusted_after}
 use Rattle.receiver.specs.Release.{release_at}
 use Rattle.judge.specs.Sound.{sound, intact, soundness}
 use Rattle.receiver.proofs.Numbered.{waiting, verdict, repaired, verdict-is, repaired-is, octets-are, status-is, first-trusted, next-history, next-trusted}
-use Rattle.judge.proofs.Verdicts.{small}
 use Rattle.judge.proofs.Judging.{judged-sound, judged-failed, judged-burst, mended-bit, mended-none, status-trusted, status-untrusted, trusted-after, untrusted-after, believed, called-sound}
 use Rattle.demands.specs.Damage.{Pairwise}
 use Rattle.demands.proofs.Wrong as W
@@ -162,7 +162,7 @@ module _ (R : Row) (lanes : Lanes R) where
     agreed-right : verdict R b i ≡ agrees → ((q : ℕ) → q < 2048 → flipped (data_place R.gap i q) ≡ 0) → Right i
     agreed-right is clean q h =
         ap (λ (l : List ℕ). bit_at l q) (repaired-is R b i)
-        ∙ mended-none (verdict R b i) (octets i) q (ap (λ (v : Verdict). v.pattern) is) h
+        ∙ mended-none (verdict R b i) (octets i) q (ap pattern_of is) h
         ∙ sym (xor_zero_r (bit_at (octets i) q))
         ∙ ap (bit_xor (bit_at (octets i) q)) (sym (clean q h))
         ∙ received-bit q h
@@ -206,7 +206,7 @@ module _ (R : Row) (lanes : Lanes R) where
           named-burst : (p : ℕ) × (q : ℕ) × IsBurst C.limit C.positions p q × ((c : ℕ) → flips p q c ≡ wrong i g c)
           named-burst = named C.limit C.positions (wrong i g) (wider lanes.limit C.limit C.positions (wrong i g) within burst)
 
-          mended-so : verdict R b i ≡ record { status = 1; place = named-burst.0; pattern = named-burst.1 }
+          mended-so : verdict R b i ≡ Repaired (record { place = named-burst.0; pattern = named-burst.1 })
           mended-so =
               verdict-is R b i
               ∙ judged-burst R.sync (octets i) _ named-burst.0 named-burst.1 mends differs
@@ -223,7 +223,7 @@ module _ (R : Row) (lanes : Lanes R) where
           repaired-right q h =
               ap (λ (l : List ℕ). bit_at l q) (repaired-is R b i)
               ∙ mended-bit (verdict R b i) (octets i) q h
-              ∙ ap (bit_xor (bit_at (octets i) q)) (ap (λ (v : Verdict). flips v.place v.pattern q) mended-so ∙ named-burst.3 q ∙ wrong-here q h)
+              ∙ ap (bit_xor (bit_at (octets i) q)) (ap (λ (v : Verdict). flips (place_of v) (pattern_of v) q) mended-so ∙ named-burst.3 q ∙ wrong-here q h)
               ∙ received-bit q h
 
       -- ---- what becomes of multiblock i
@@ -314,21 +314,21 @@ module _ (R : Row) (lanes : Lanes R) where
     status i = (release_at R b (suc i) (waiting R b i)).status
 
     module _ (some : 0 < C.groups) (within : lanes.limit ≤ C.limit) where
-      not-failed : (i : ℕ) → suc i < n → (verdict R b i).status ≢ 2 → Right i
-      not-failed i l m = ⊎_elim (λ r. r) (λ f. absurd (m (ap (λ (v : Verdict). v.status) f))) (right-or-failed i l some within)
+      not-failed : (i : ℕ) → suc i < n → status_of (verdict R b i) ≢ 2 → Right i
+      not-failed i l m = ⊎_elim (λ r. r) (λ f. absurd (m (ap status_of f))) (right-or-failed i l some within)
 
       -- a history is trusted only after a multiblock that is right
       trusted-right : (i j : ℕ) → suc i < n → (waiting R b i).trusted ≡ true → Right i → j < 256 → octet i j ≡ get_or user (256 * (first + i) + j) 0
       trusted-right zero j l t right h = absurd (true≢false (sym t ∙ first-trusted R b))
       trusted-right (suc i) j l t right h = next-octet i j (not-failed i (omega arith) before) right h
         where
-          before : (verdict R b i).status ≢ 2
+          before : status_of (verdict R b i) ≢ 2
           before e = true≢false (sym t ∙ next-trusted R b i ∙ untrusted-after (verdict R b i) e)
 
       -- an octet called sound is the one sent, and so is each after it in its multiblock
       pub sound-octet : (i k j : ℕ) → suc i < n → k ≤ j → j < 256 → soundness R.sync (status i) k ≡ sound → octet i j ≡ get_or user (256 * (first + i) + j) 0
       sound-octet i k j l m h e =
-          let believe = believed (verdict R b i) (waiting R b i).trusted k (small R.sync (octets i) _ (verdict R b i) (verdict-is R b i)) (ap (λ (x : ℕ). intact x k) (sym (status-is R b i)) ∙ (called-sound R.sync (status i) k e).0) in
+          let believe = believed (verdict R b i) (waiting R b i).trusted k (ap (λ (x : ℕ). intact x k) (sym (status-is R b i)) ∙ (called-sound R.sync (status i) k e).0) in
           let right = not-failed i l believe.not-failed in
           ⊎_elim (λ t. trusted-right i j l t right h) (λ (late : 8 ≤ k). late-octet i j right h (omega arith)) believe.known
 

@@ -1,8 +1,8 @@
 -- A burst flipped bit by bit in 256 octets gives the mended octets: document 01, "What the receiver releases". Assumes nothing.
-use mathlib.Core.Path.{◌≡◌, sym, ap, ap₂, ◌∙◌, subst}
+use mathlib.Core.Path.{◌≡◌, refl, sym, ap, ap₂, ◌∙◌, subst}
 use mathlib.Core.List.{List}
 use Prim.Native.Nat.{ℕ, ◌+◌, ◌-◌, ◌*◌, ◌/◌, ◌%◌, ◌^◌, ◌≤◌, ◌<◌}
-use native.Mathlib.Nat.{div-le_self, zero-div}
+use native.Mathlib.Nat.{div-le_self, zero-div, div-eq_of_lt}
 use native.Mathlib.Decide.{ℕ_discrete, dec_lt}
 use native.Mathlib.Omega.{arith}
 use borrow.Author.Tests.{eq-eqb, ne_eqb}
@@ -20,7 +20,9 @@ use Rattle.bits.proofs.Tests.{every, every-at}
 use Rattle.bits.proofs.Xor.{xor_assoc}
 use Rattle.parity.specs.Bursts.{flips}
 use Rattle.parity.proofs.Bursts.{flips-at, flips-before}
+use Rattle.parity.specs.declared.Burst.{Burst}
 use Rattle.judge.specs.declared.Verdict.{Verdict}
+use Rattle.judge.specs.declared.Verdict.TheVariants.{Agrees, Repaired, Failed}
 use Rattle.judge.specs.Judge.{mended}
 
 -- ---- one bit
@@ -168,39 +170,47 @@ mend-none octets p long octet-lt =
 
 -- ---- on the way: what is left to flip
 
--- the octets out, with the pattern w from p on left to be flipped, where the pattern w₀ from p₀ on was to be flipped in octets
-pub record Mending (octets : List ℕ) (p₀ w₀ : ℕ) (out : List ℕ) (p w : ℕ) : Type 0 where
+-- the octets out, once the first bits of a pattern w from p on are flipped in octets: the rest is left to be flipped
+pub record Mending (octets : List ℕ) (p w : ℕ) (out : List ℕ) (bit : ℕ) : Type 0 where
   pub long : length out ≡ 256
   pub octet-lt : (j : ℕ) → get_or out j 0 < 256
-  pub near : p + w ≤ p₀ + w₀
-  pub same : mended_by p w out ≡ mended_by p₀ w₀ octets
+  pub same : mended_by (p + bit) (w / 2 ^ bit) out ≡ mended_by p w octets
 
-module _ {octets out : List ℕ} {p₀ w₀ p w : ℕ} (m : Mending octets p₀ w₀ out p w) (some : 0 < w) where
-  pub flip-next : {new : List ℕ} → new ≡ flip_at out p → p < 2048 → w % 2 ≡ 1 → Mending octets p₀ w₀ new (p + 1) (w / 2)
-  flip-next e inside odd =
-      let h : p / 8 < length out = omega (arith, m.long) in
+module _ {octets out : List ℕ} {p w bit : ℕ} (m : Mending octets p w out bit) where
+  one-on : (l : List ℕ) → mended_by (p + (bit + 1)) (w / 2 ^ (bit + 1)) l ≡ mended_by (p + bit + 1) (w / 2 ^ bit / 2) l
+  one-on l = ap₂ (λ (x y : ℕ). mended_by x y l) {x = p + (bit + 1)} {y = p + bit + 1} (omega arith) (sym (shr-shr w bit 1))
+
+  pub flip-next : {new : List ℕ} → new ≡ flip_at out (p + bit) → p + bit < 2048 → w / 2 ^ bit % 2 ≡ 1 → Mending octets p w new (bit + 1)
+  flip-next {new} e inside odd =
+      let h : (p + bit) / 8 < length out = omega (arith, m.long) in
       record {
-        long = ap length e ∙ flip-length out p ∙ m.long;
-        octet-lt = λ j. rw e (flip-octets out p h m.octet-lt j);
-        near = omega (arith, m.near);
-        same = ap (mended_by (p + 1) (w / 2)) e ∙ mend-odd out p w m.long inside odd ∙ m.same;
+        long = ap length e ∙ flip-length out (p + bit) ∙ m.long;
+        octet-lt = λ j. rw e (flip-octets out (p + bit) h m.octet-lt j);
+        same = one-on new ∙ ap (mended_by (p + bit + 1) (w / 2 ^ bit / 2)) e ∙ mend-odd out (p + bit) (w / 2 ^ bit) m.long inside odd ∙ m.same;
       }
 
-  skip : {new : List ℕ} → new ≡ out → mended_by (p + 1) (w / 2) out ≡ mended_by p w out → Mending octets p₀ w₀ new (p + 1) (w / 2)
-  skip e left = record {
+  skip : {new : List ℕ} → new ≡ out → mended_by (p + bit + 1) (w / 2 ^ bit / 2) out ≡ mended_by (p + bit) (w / 2 ^ bit) out → Mending octets p w new (bit + 1)
+  skip {new} e left = record {
     long = ap length e ∙ m.long;
     octet-lt = λ j. rw e (m.octet-lt j);
-    near = omega (arith, m.near);
-    same = ap (mended_by (p + 1) (w / 2)) e ∙ left ∙ m.same;
+    same = one-on new ∙ ap (mended_by (p + bit + 1) (w / 2 ^ bit / 2)) e ∙ left ∙ m.same;
   }
 
-  pub skip-parity : {new : List ℕ} → new ≡ out → 2048 ≤ p → Mending octets p₀ w₀ new (p + 1) (w / 2)
-  skip-parity e h = skip e (mend-parity out p w h)
+  pub skip-parity : {new : List ℕ} → new ≡ out → 2048 ≤ p + bit → Mending octets p w new (bit + 1)
+  skip-parity e h = skip e (mend-parity out (p + bit) (w / 2 ^ bit) h)
 
-  pub skip-even : {new : List ℕ} → new ≡ out → (w % 2 ≡ 1 → ⊥) → Mending octets p₀ w₀ new (p + 1) (w / 2)
-  skip-even e n = skip e (mend-even out p w (omega arith))
+  pub skip-even : {new : List ℕ} → new ≡ out → (w / 2 ^ bit % 2 ≡ 1 → ⊥) → Mending octets p w new (bit + 1)
+  skip-even e n = skip e (mend-even out (p + bit) (w / 2 ^ bit) (omega arith))
 
-pub all-flipped : (v : Verdict) {octets out : List ℕ} {p w : ℕ} → Mending octets v.place v.pattern out p w → w ≡ 0 → out ≡ mended v octets
+-- all the bits of a pattern
+pub all-flipped : (burst : Burst) {octets out : List ℕ} {bit : ℕ} → Mending octets burst.place burst.pattern out bit → burst.pattern < 2 ^ bit → out ≡ mended (Repaired burst) octets
 unfolding mended
-all-flipped v {out = out} {p = p} m none =
-    sym (ap (λ (x : ℕ). mended_by p x out) none ∙ mend-none out p m.long m.octet-lt) ∙ m.same
+all-flipped burst {out = out} {bit = bit} m short =
+    sym (ap (λ (x : ℕ). mended_by (burst.place + bit) x out) (div-eq_of_lt short) ∙ mend-none out (burst.place + bit) m.long m.octet-lt) ∙ m.same
+
+-- where there is no burst, nothing is flipped
+pub as-they-are : (v : Verdict) (octets : List ℕ) → ((burst : Burst) → v ≡ Repaired burst → ⊥) → length octets ≡ 256 → ((j : ℕ) → get_or octets j 0 < 256) → octets ≡ mended v octets
+unfolding mended
+as-they-are Agrees octets n long octet-lt = sym (mend-none octets 0 long octet-lt)
+as-they-are (Repaired burst) octets n long octet-lt = absurd (n burst refl)
+as-they-are Failed octets n long octet-lt = sym (mend-none octets 0 long octet-lt)

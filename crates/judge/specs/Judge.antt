@@ -1,33 +1,49 @@
 -- How a waiting multiblock is judged and mended: document 01, "What the receiver releases"; clauses 7.4.1, 7.5.1 and 7.5.3; request 5. Assumes
 -- nothing.
-use Rattle.std.specs.Prelude.{Bool, not, List, ℕ, ◌+◌, eqb}
+use Rattle.std.specs.Prelude.{Bool, not, List, ℕ, ◌+◌, eqb, Option, Some, None}
 use Rattle.std.specs.Int.Bits.{bit_xor}
 use Rattle.bits.specs.Choice.{pick}
 use Rattle.bits.specs.Order.{bit_at, octets_of}
 use Rattle.parity.specs.declared.Burst.{Burst}
-use Rattle.parity.specs.declared.Burst.TheVariants.{At, Nothing}
 use Rattle.parity.specs.Codeword.{multiblock_parity}
 use Rattle.parity.specs.Bursts.{flips}
-use Rattle.parity.specs.Answer.{burst_for, place_of, pattern_of}
+use Rattle.parity.specs.Answer.{burst_for}
 use Rattle.frame.specs.declared.modes.Sync.{Sync}
 use Rattle.frame.specs.Modes.{code, repairs}
 use Rattle.judge.specs.declared.Verdict.{Verdict}
+use Rattle.judge.specs.declared.Verdict.TheVariants.{Agrees, Repaired, Failed}
 
--- 0: parity agrees
+-- ---- document 01's values for each case
+
+-- 0: parity agrees; 1: it disagrees, and a burst explains it; 2: no burst does
+abbrev pub status_of : Verdict → ℕ
+status_of Agrees = 0
+status_of (Repaired burst) = 1
+status_of Failed = 2
+
+-- 0 where there is no burst
+abbrev pub place_of : Verdict → ℕ
+place_of Agrees = 0
+place_of (Repaired burst) = burst.place
+place_of Failed = 0
+
+abbrev pub pattern_of : Verdict → ℕ
+pattern_of Agrees = 0
+pattern_of (Repaired burst) = burst.pattern
+pattern_of Failed = 0
+
+-- ---- which case it is
+
 abbrev pub agrees : Verdict
-agrees = record { status = 0; place = 0; pattern = 0 }
+agrees = Agrees
 
--- 2: it disagrees, and no burst explains it
 abbrev pub failed : Verdict
-failed = record { status = 2; place = 0; pattern = 0 }
+failed = Failed
 
--- 1 with the burst that explains it; 2 where none does
-abbrev pub status_of : Burst → ℕ
-status_of (At place pattern) = 1
-status_of Nothing = 2
-
-abbrev pub by_burst : Burst → Verdict
-by_burst burst = record { status = status_of burst; place = place_of burst; pattern = pattern_of burst }
+-- the burst that explains it, if there is one
+abbrev pub by_burst : Option Burst → Verdict
+by_burst (Some burst) = Repaired burst
+by_burst None = failed
 
 -- by the difference between the parity of what was received and the parity received: with more than one group it is 0 only where all agree, and
 -- without groups always
@@ -39,12 +55,12 @@ judged S octets parity = verdict_of S (bit_xor (multiblock_parity (code S) (bit_
 
 -- the data with the burst flipped; positions from 2,048 on are parity
 unfoldable pub mended : Verdict → List ℕ → List ℕ
-mended v octets = octets_of (λ k. bit_xor (bit_at octets k) (flips v.place v.pattern k)) 256
+mended v octets = octets_of (λ k. bit_xor (bit_at octets k) (flips (place_of v) (pattern_of v) k)) 256
 
 -- 4 is added when the history before isn't trusted
 unfoldable pub released_status : Verdict → Bool → ℕ
-released_status v trusted = v.status + pick trusted 0 4
+released_status v trusted = status_of v + pick trusted 0 4
 
 -- the next history is trusted unless this multiblock failed
 unfoldable pub trusted_after : Verdict → Bool
-trusted_after v = not (eqb v.status 2)
+trusted_after v = not (eqb (status_of v) 2)

@@ -7,21 +7,55 @@ ghost use Rattle.bits.specs.Order.{bit_at, number, laid_at};
 ghost use Rattle.scrambler.specs.Scrambling.{descrambled};
 ghost use Rattle.parity.specs.Codeword.{multiblock_parity};
 ghost use Rattle.frame.specs.Modes.{code};
-ghost use Rattle.judge.specs.Judge.{by_burst, verdict_of, judged, mended, released_status, trusted_after};
+ghost use Rattle.judge.specs.Judge.{status_of, place_of, pattern_of, by_burst, verdict_of, judged, mended, released_status, trusted_after};
 
 use frame::modes::Sync;
 use parity::{Burst, Crc3, Crc12, Fec};
 
-// Status 0, 1 or 2, and the burst that was flipped.
-#[derive(Clone, Copy)]
-pub struct Verdict {
-    pub status: u8,
-    pub place: u16,
-    pub pattern: u16,
+// Its parity agrees; or it disagrees, and a burst that was flipped back explains it; or none does.
+#[derive(Clone, Copy, Debug, PartialEq, Eq)]
+pub enum Verdict {
+    Agrees,
+    Repaired(Burst),
+    Failed,
+}
+
+impl Verdict {
+    // Document 01's number.
+    pub fn status(self) -> u8
+        ensures value { result ≡ status_of self }
+        ensures at_most { result ≤ 2 }
+    {
+        match self {
+            Verdict::Agrees => 0,
+            Verdict::Repaired(_) => 1,
+            Verdict::Failed => 2,
+        }
+    }
+
+    // Where the burst starts; 0 where there is none.
+    pub fn place(self) -> u16
+        ensures { result ≡ place_of self }
+    {
+        match self {
+            Verdict::Repaired(burst) => burst.place,
+            Verdict::Agrees | Verdict::Failed => 0,
+        }
+    }
+
+    // The burst's bits; 0 where there is none.
+    pub fn pattern(self) -> u16
+        ensures { result ≡ pattern_of self }
+    {
+        match self {
+            Verdict::Repaired(burst) => burst.pattern,
+            Verdict::Agrees | Verdict::Failed => 0,
+        }
+    }
 }
 
 // The verdict, and the status that is released with it; the history that the multiblock leaves, and whether it is trusted.
-#[derive(Clone, Copy)]
+#[derive(Clone, Copy, Debug, PartialEq, Eq)]
 pub struct Released {
     pub verdict: Verdict,
     pub status: u8,
@@ -30,39 +64,26 @@ pub struct Released {
 }
 
 // A burst that was found, or none.
-fn by_burst(burst: Burst) -> Verdict
+fn by_burst(burst: Option<Burst>) -> Verdict
     ensures { result ≡ by_burst burst }
 {
     match burst {
-        Burst::At(place, pattern) => Verdict {
-            status: 1,
-            place,
-            pattern,
-        },
-        Burst::Nothing => Verdict {
-            status: 2,
-            place: 0,
-            pattern: 0,
-        },
+        Some(burst) => Verdict::Repaired(burst),
+        None => Verdict::Failed,
     }
 }
 
 // By the difference of the two parities. A burst is looked for only where they differ, and only with FEC.
+#[tactic(auto, unfolding(crate::specs::Judge::verdict_of))]
 fn verdict_of(sync: Sync, difference: u32) -> Verdict
     ensures { result ≡ verdict_of sync difference }
 {
     if difference == 0 {
-        return Verdict {
-            status: 0,
-            place: 0,
-            pattern: 0,
-        };
+        return Verdict::Agrees;
     }
     match sync {
-        Sync::Crc12 => by_burst(Burst::Nothing),
         Sync::Fec => by_burst(Fec::burst(difference)),
-        Sync::Crc3 => by_burst(Burst::Nothing),
-        Sync::Command => by_burst(Burst::Nothing),
+        Sync::Crc12 | Sync::Crc3 | Sync::Command => Verdict::Failed,
     }
 }
 
@@ -85,43 +106,38 @@ fn mend(octets: [u8; 256], verdict: Verdict) -> [u8; 256]
     requires { (length octets ≡ 256) × ((j : ℕ) → get_or octets j 0 < 256) }
     ensures { result ≡ mended verdict octets }
 {
+    let Verdict::Repaired(burst) = verdict else {
+        return octets;
+    };
     let mut out = octets;
-    let mut left = verdict.pattern;
-    let mut position = verdict.place as usize;
-    while left > 0 {
-        if left & 1 == 1 {
-            if position < 2048 {
-                out[position / 8] = out[position / 8] ^ (128u8 >> (position % 8));
-            }
+    for bit in 0..16 {
+        let position = usize::from(burst.place) + bit;
+        if (burst.pattern >> bit) & 1 == 1 && position < 2048 {
+            out[position / 8] ^= 128 >> (position % 8);
         }
-        left = left >> 1;
-        position += 1;
     }
     out
 }
 
 // The status as it is released.
+#[tactic(auto, unfolding(crate::specs::Judge::released_status))]
 fn released_status(verdict: Verdict, trusted: bool) -> u8
-    requires { verdict.status ≤ 2 }
     ensures { result ≡ released_status verdict trusted }
 {
-    if trusted {
-        return verdict.status;
-    }
-    verdict.status + 4
+    let status = verdict.status();
+    if trusted { status } else { status + 4 }
 }
 
 // Whether the history that it leaves is trusted.
+#[tactic(auto, unfolding(crate::specs::Judge::trusted_after))]
 fn trusted_after(verdict: Verdict) -> bool
     ensures { result ≡ trusted_after verdict }
 {
-    if verdict.status == 2 {
-        return false;
-    }
-    true
+    !matches!(verdict, Verdict::Failed)
 }
 
 // The waiting multiblock, once the parity that came after it is known: its user octets over the start of `out`; nothing where they do not fit.
+#[tactic(auto, unfolding(crate::specs::Judge::judged))]
 pub fn release(
     sync: Sync,
     octets: [u8; 256],

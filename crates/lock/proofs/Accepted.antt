@@ -15,11 +15,10 @@ use Rattle.frame.proofs.Rows.{extent-within}
 use Rattle.lock.specs.HeaderTable.{valid, header_step}
 use Rattle.lock.specs.Table.{fresh, extended_after, lock_step}
 use Rattle.lock.specs.Ranges.{header_in_range, extended_in_range, is_fresh, accepted}
-use Rattle.lock.specs.Refusals.{width_of, refusals, stepped}
+use Rattle.lock.specs.Refusals.{width_of, refusals, stepped, Stepped}
 use Rattle.lock.specs.declared.HeaderLock.{HeaderLock}
 use Rattle.lock.specs.declared.ExtendedLock.{ExtendedLock}
 use Rattle.lock.specs.declared.Lock.{Lock}
-use Rattle.lock.specs.declared.Stepped.{Stepped}
 use Rattle.lock.proofs.HeaderRange.{hunting-in, header-keeps}
 use Rattle.lock.proofs.ExtendedRange.{extended-keeps, fresh-extended, is-fresh}
 

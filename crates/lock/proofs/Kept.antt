@@ -11,12 +11,11 @@ use Rattle.frame.specs.Headers.{header_read}
 use Rattle.lock.specs.ExtendedTable.{with_header, matches, following, moved, extended_step}
 use Rattle.lock.specs.Table.{lock_step}
 use Rattle.lock.specs.Ranges.{phase_in_range, extended_in_range, is_hunting, is_fresh}
-use Rattle.lock.specs.Refusals.{width_of, stepped}
+use Rattle.lock.specs.Refusals.{width_of, stepped, Stepped}
 use Rattle.lock.specs.declared.Phase.{Phase}
 use Rattle.lock.specs.declared.Phase.TheVariants.{Following}
 use Rattle.lock.specs.declared.ExtendedLock.{ExtendedLock}
 use Rattle.lock.specs.declared.Lock.{Lock}
-use Rattle.lock.specs.declared.Stepped.{Stepped}
 use Rattle.lock.proofs.ExtendedRows.{step_by}
 use Rattle.lock.proofs.ExtendedRange.{FollowingIn, following-range, phase-range}
 use Rattle.lock.proofs.Accepted.{accepted-parts, Taken, taken, stepped-taken, accepted-after, taken_next}

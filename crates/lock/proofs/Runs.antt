@@ -13,10 +13,9 @@ use Rattle.frame.specs.Headers.{header_read}
 use Rattle.frame.specs.Modes.{known, row, extent_fits}
 use Rattle.frame.proofs.Sizes.{width_some}
 use Rattle.lock.specs.Table.{fresh, lock_step}
-use Rattle.lock.specs.Refusals.{width_of, stepped}
+use Rattle.lock.specs.Refusals.{width_of, stepped, Stepped}
 use Rattle.lock.specs.Run.{after, state_after}
 use Rattle.lock.specs.declared.Lock.{Lock}
-use Rattle.lock.specs.declared.Stepped.{Stepped}
 use Rattle.lock.proofs.Accepted.{accepted-fresh, Taken, stepped-taken, taken_next}
 
 pub after-append : (mode E : ℕ) (lock : Lock) (a b : List ℕ) → after mode E lock (a ++ b) ≡ after mode E (after mode E lock a) b

@@ -1,5 +1,7 @@
 -- What a step refuses, and what it answers: document 01, "Numbers of refusal". Assumes nothing.
-use Rattle.std.specs.Prelude.{not, List, [], ◌∷◌, ℕ, ◌*◌, ltb, eqb}
+use Rattle.std.specs.Prelude.{not, List, [], ◌∷◌, ℕ, ◌*◌, Result, Ok, Err, ltb, eqb}
+use Rattle.answers.specs.declared.Refusal.{Refusal}
+use Rattle.answers.specs.Numbers.{number}
 use Rattle.bits.specs.Choice.{pick}
 use Rattle.bits.specs.Refusals.{Line, ◌when◌, refusal_by}
 use Rattle.frame.specs.Headers.{header_read}
@@ -8,7 +10,6 @@ use Rattle.frame.specs.Modes.{known, row, extent_fits}
 use Rattle.lock.specs.Table.{lock_step}
 use Rattle.lock.specs.Ranges.{accepted}
 use Rattle.lock.specs.declared.Lock.{Lock}
-use Rattle.lock.specs.declared.Stepped.{Stepped}
 
 -- the bits of a block in a mode
 abbrev pub width_of : ℕ → ℕ
@@ -22,6 +23,15 @@ refusals mode E lock header =
     ∷ 3 when not (accepted (width_of mode) (32 * E) lock)
     ∷ 9 when ltb 3 header
     ∷ []
+
+-- a refusal, or 0, and the locks for the next step: a refusal hands back the state given
+pub record Stepped : Type 0 where
+  pub refusal : ℕ
+  pub lock : Lock
+
+abbrev pub step_answer : Lock → Result Lock Refusal → Stepped
+step_answer lock (Ok next) = record { refusal = 0; lock = next }
+step_answer lock (Err why) = record { refusal = number why; lock = lock }
 
 -- one call of step: a refusal hands back the state given
 unfoldable pub stepped : ℕ → ℕ → Lock → ℕ → Stepped

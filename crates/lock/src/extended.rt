@@ -21,12 +21,11 @@ fn counted(
 {
     ExtendedLock {
         phase,
-        seen: lock.seen,
-        headers: lock.headers,
         good,
         bad,
         next,
         kept,
+        ..lock
     }
 }
 
@@ -76,7 +75,7 @@ fn between_looks(period: u32, lock: ExtendedLock, matched: bool) -> ExtendedLock
     ensures { result ≡ extended_row Following false matched period lock }
 {
     let next = lock.next - 1;
-    if matched & (lock.kept == 0) {
+    if matched && lock.kept == 0 {
         return following(lock, lock.good, next, period);
     }
     let kept = ran_on(period, lock.kept);
@@ -129,13 +128,13 @@ fn locked_next(period: u32, lock: ExtendedLock, look: bool, matched: bool) -> Ex
     locked(lock, bad, period)
 }
 
+#[tactic(auto, unfolding(crate::specs::ExtendedTable::moved))]
 fn moved(period: u32, lock: ExtendedLock, matched: bool) -> ExtendedLock
     requires { phase_in_range lock.phase period lock ≡ true }
     ensures { result ≡ moved period lock matched }
 {
     let look = lock.next == 1;
-    let phase = lock.phase;
-    match phase {
+    match lock.phase {
         Phase::Hunting => hunting_next(period, lock, matched),
         Phase::Following => following_next(period, lock, look, matched),
         Phase::Locked => locked_next(period, lock, look, matched),
@@ -143,6 +142,7 @@ fn moved(period: u32, lock: ExtendedLock, matched: bool) -> ExtendedLock
 }
 
 // The state after one more header.
+#[tactic(auto, unfolding(crate::specs::ExtendedTable::extended_step))]
 pub(crate) fn next(period: u32, lock: ExtendedLock, header: Header) -> ExtendedLock
     requires { extended_in_range period lock ≡ true }
     ensures { result ≡ extended_step period lock header }

@@ -61,6 +61,7 @@ fn locked_next(width: u32, lock: HeaderLock, valid: bool) -> HeaderLock
 }
 
 // The state after one more header.
+#[tactic(auto, unfolding(crate::specs::HeaderTable::header_step))]
 pub(crate) fn next(width: u32, lock: HeaderLock, header: Header) -> HeaderLock
     requires { header_in_range width lock ≡ true }
     ensures { result ≡ header_step width lock (valid header) }

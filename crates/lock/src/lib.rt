@@ -2,12 +2,14 @@
 #![tactic(auto)]
 
 ghost use Rattle.std.specs.Prelude.{◌≡◌, true};
+ghost use Rattle.answers.specs.Numbers.{refused};
 ghost use Rattle.bits.specs.Refusals.{refusal_by};
 ghost use Rattle.lock.specs.ExtendedTable.{fresh_extended};
 ghost use Rattle.lock.specs.Table.{fresh, extended_after, lock_step};
 ghost use Rattle.lock.specs.Ranges.{extended_in_range, accepted};
-ghost use Rattle.lock.specs.Refusals.{width_of, refusals, stepped};
+ghost use Rattle.lock.specs.Refusals.{width_of, refusals, step_answer, stepped};
 
+use answers::Refusal;
 use frame::headers;
 use frame::headers::Header;
 use frame::modes::{extent_fits, known, numbers_of, row_of};
@@ -19,7 +21,7 @@ mod latest;
 mod range;
 
 // A run of valid headers, and a count of bad ones while locked.
-#[derive(Clone, Copy)]
+#[derive(Clone, Copy, Debug, PartialEq, Eq)]
 pub struct HeaderLock {
     pub locked: bool,
     pub offset: u32,
@@ -27,7 +29,7 @@ pub struct HeaderLock {
     pub bad: u32,
 }
 
-#[derive(Clone, Copy)]
+#[derive(Clone, Copy, Debug, PartialEq, Eq)]
 pub enum Phase {
     Hunting,
     Following,
@@ -37,7 +39,7 @@ pub enum Phase {
 // The last 32 sync bits, the latest in bit 0, with how many were seen: a missing one is 0.
 // Good counts while following, bad while locked, and next is the number of blocks to the next look. Kept is the number of blocks to where
 // a match that came while another is followed would be looked at next, 0 for none.
-#[derive(Clone, Copy)]
+#[derive(Clone, Copy, Debug, PartialEq, Eq)]
 pub struct ExtendedLock {
     pub phase: Phase,
     pub seen: u32,
@@ -48,16 +50,10 @@ pub struct ExtendedLock {
     pub kept: u32,
 }
 
-#[derive(Clone, Copy)]
+#[derive(Clone, Copy, Debug, PartialEq, Eq)]
 pub struct Lock {
     pub header: HeaderLock,
     pub extended: ExtendedLock,
-}
-
-#[derive(Clone, Copy)]
-pub struct Stepped {
-    pub refusal: u8,
-    pub lock: Lock,
 }
 
 impl ExtendedLock {
@@ -111,14 +107,14 @@ fn extended_after(
     ExtendedLock::fresh()
 }
 
+#[tactic(auto, unfolding(crate::specs::Table::lock_step))]
 fn lock_next(width: u32, period: u32, lock: Lock, header: Header) -> Lock
     requires { accepted width period lock ≡ true }
     ensures { result ≡ lock_step width period lock header }
 {
     let before = lock.header;
-    let extended = lock.extended;
     let after = header::next(width, before, header);
-    let extended = extended_after(before.locked, after.locked, period, extended, header);
+    let extended = extended_after(before.locked, after.locked, period, lock.extended, header);
     Lock {
         header: after,
         extended,
@@ -129,40 +125,37 @@ fn lock_next(width: u32, period: u32, lock: Lock, header: Header) -> Lock
 fn width_of(mode: u8) -> u32
     ensures { result ≡ width_of mode }
 {
-    let row = row_of(mode);
-    let numbers = numbers_of(row);
-    numbers.width
+    numbers_of(row_of(mode)).width
 }
 
-fn refusal_of(mode: u8, e: u32, width: u32, lock: Lock, header: u8) -> u8
+// What a step is refused for: the lowest number is found first.
+#[tactic(auto, unfolding(bits::specs::Refusals::refusal_by))]
+fn check(mode: u8, e: u32, width: u32, lock: Lock, header: u8) -> Result<(), Refusal>
     requires { width ≡ width_of mode }
-    ensures { result ≡ refusal_by (refusals mode e lock header) }
+    ensures { refused result ≡ refusal_by (refusals mode e lock header) }
 {
     if !known(mode) {
-        return 1;
+        return Err(Refusal::Mode);
     }
     if !extent_fits(e) {
-        return 2;
+        return Err(Refusal::Extent);
     }
     if !is_accepted(width, 32 * e, lock) {
-        return 3;
+        return Err(Refusal::State);
     }
     if header > 3 {
-        return 9;
+        return Err(Refusal::Header);
     }
-    0
+    Ok(())
 }
 
 // Both locks after one more header.
-pub fn step(mode: u8, e: u32, lock: Lock, header: u8) -> Stepped
-    ensures { result ≡ stepped mode e lock header }
+#[tactic(auto, unfolding(crate::specs::Refusals::stepped))]
+pub fn step(mode: u8, e: u32, lock: Lock, header: u8) -> Result<Lock, Refusal>
+    ensures { step_answer lock result ≡ stepped mode e lock header }
 {
     let width = width_of(mode);
-    let refusal = refusal_of(mode, e, width, lock, header);
-    if refusal != 0 {
-        return Stepped { refusal, lock };
-    }
+    check(mode, e, width, lock, header)?;
     let header = headers::read(header);
-    let lock = lock_next(width, 32 * e, lock, header);
-    Stepped { refusal, lock }
+    Ok(lock_next(width, 32 * e, lock, header))
 }

@@ -12,6 +12,12 @@ use borrow.Author.Tests.{ltb-true, ltb-false, leb-true, leb-false, le-leb, lt-le
 use lib.Dec.{ltb, leb, eqb}
 use lib.ListN.{length, get_or, take, drop}
 use lib.Seq.{drop-cons, drop-length}
+use denote.Bor.{Bor}
+use Rattle.std.specs.Prelude.{Result, Ok, Err, IfOk}
+use Rattle.std.specs.Result.{result_unwrap_or}
+use Rattle.answers.specs.declared.Refusal.{Refusal}
+use Rattle.answers.specs.Numbers.{refused}
+use Rattle.answers.proofs.Numbers.{number-above}
 use Rattle.bits.specs.Choice.{pick}
 use Rattle.longest.specs.declared.Span.{Span}
 use Rattle.longest.specs.Longest.{Stretch, Longest, start_after, longer, scan, span_of, no_span, refusal_for, part_of}
@@ -135,28 +141,28 @@ module _ (statuses : List ℕ) where
         earliest = λ a s. b.earliest a s s.within;
       }
 
-pub keeps-run : (status i start : ℕ) → status ≤ 1 → start ≡ start_after status i start
+pub keeps_run : (status i start : ℕ) → status ≤ 1 → start ≡ start_after status i start
 unfolding start_after
-keeps-run status i start h = simp (le-leb status 1 h)
+keeps_run status i start h = simp (le-leb status 1 h)
 
-pub ends-run : (status i start : ℕ) → 1 < status → i + 1 ≡ start_after status i start
+pub ends_run : (status i start : ℕ) → 1 < status → i + 1 ≡ start_after status i start
 unfolding start_after
-ends-run status i start h = simp (lt-leb status 1 h)
+ends_run status i start h = simp (lt-leb status 1 h)
 
 -- one status more is read
-pub scan-on : (s : List ℕ) (i start start' : ℕ) (best best' : Span) → i < length s → start' ≡ start_after (get_or s i 0) i start → best' ≡ longer best start' (i + 1 - start')
+pub scan_on : (s : List ℕ) (i start start' : ℕ) (best best' : Span) → i < length s → start' ≡ start_after (get_or s i 0) i start → best' ≡ longer best start' (i + 1 - start')
     → scan (drop i s) i start best ≡ scan (drop (i + 1) s) (i + 1) start' best'
 unfolding scan
-scan-on s i start start' best best' h e e' =
+scan_on s i start start' best best' h e e' =
     ap (λ (l : List ℕ). scan l i start best) (drop-cons s i 0 h)
     ∙ ap (λ (x : ℕ). scan (drop (suc i) s) (i + 1) x (longer best x (i + 1 - x))) (sym e)
     ∙ ap (scan (drop (suc i) s) (i + 1) start') (sym e')
     ∙ ap (λ (k : ℕ). scan (drop k s) (i + 1) start' best') (sym (add-one i))
 
 -- all are read
-pub scan-over : (s : List ℕ) (i start : ℕ) (best : Span) → i ≡ length s → scan (drop i s) i start best ≡ best
+pub scan_over : (s : List ℕ) (i start : ℕ) (best : Span) → i ≡ length s → scan (drop i s) i start best ≡ best
 unfolding scan
-scan-over s i start best e = ap (λ (k : ℕ). scan (drop k s) i start best) e ∙ ap (λ (l : List ℕ). scan l i start best) (drop-length s)
+scan_over s i start best e = ap (λ (k : ℕ). scan (drop k s) i start best) e ∙ ap (λ (l : List ℕ). scan l i start best) (drop-length s)
 
 -- a call that isn't refused has 256 octets for each status
 fitting : (a b : ℕ) (t : Bool) → eqb a b ≡ t → ◌≡◌ {A = ℕ} (pick t 0 4) 0 → a ≡ b
@@ -164,23 +170,29 @@ fitting a b true e h = eqb-true a b e
 fitting a b false e h = absurd (omega arith)
 
 module _ (octets statuses : List ℕ) (span : Span) (accepted : refusal_for octets statuses ≡ 0) (is : span ≡ span_of statuses) where
-  pub in-octets : 256 * span.start + 256 * span.count ≤ length octets
+  pub in_octets : 256 * span.start + 256 * span.count ≤ length octets
   unfolding refusal_for
-  in-octets =
+  in_octets =
       let whole = fitting (length octets) (256 * length statuses) (eqb (length octets) (256 * length statuses)) refl accepted in
       let inside : span.start + span.count ≤ length statuses = subst (λ (s : Span). s.start + s.count ≤ length statuses) (sym is) (longest statuses).stretch.within in
       omega arith
 
-  pub part-given : take (256 * span.start + 256 * span.count - 256 * span.start) (drop (256 * span.start) octets) ≡ part_of octets statuses
+  pub part_given : take (256 * span.start + 256 * span.count - 256 * span.start) (drop (256 * span.start) octets) ≡ part_of octets statuses
   unfolding part_of
-  part-given =
+  part_given =
       let h : 256 * span.start + 256 * span.count - 256 * span.start ≡ 256 * span.count = omega arith in
       ap (λ (n : ℕ). take n (drop (256 * span.start) octets)) h
       ∙ ap (λ (s : Span). take (256 * s.count) (drop (256 * s.start) octets)) is ∙ sym (simp (eq-eqb (refusal_for octets statuses) 0 accepted))
 
-pub part-refused : (octets statuses : List ℕ) → (refusal_for octets statuses ≡ 0 → ⊥) → [] ≡ part_of octets statuses
+part-refused : (octets statuses : List ℕ) → (refusal_for octets statuses ≡ 0 → ⊥) → [] ≡ part_of octets statuses
 unfolding part_of
 part-refused octets statuses h = sym (simp (ne_eqb (refusal_for octets statuses) 0 h))
+
+-- what the call answers, or nothing where it is refused
+pub part_or_none : (octets statuses : List ℕ) (r : Result (Bor (List ℕ)) Refusal) (empty : Bor (List ℕ)) → empty.now ≡ [] → refused r ≡ refusal_for octets statuses
+    → IfOk r (λ part. part.now ≡ part_of octets statuses) → (result_unwrap_or r empty).now ≡ part_of octets statuses
+part_or_none octets statuses (Ok part) empty e f h = h
+part_or_none octets statuses (Err why) empty e f h = e ∙ part-refused octets statuses (λ z. number-above why (f ∙ z))
 
 -- so whichever run is the longest, its octets are handed back
 pub part-of-longest : (octets statuses : List ℕ) {start count : ℕ} → length octets ≡ 256 * length statuses → Longest statuses start count

@@ -9,6 +9,11 @@ use native.Mathlib.Omega.{arith}
 use borrow.Author.Tests.{ltb-true, ltb-false, eqb-true, eq-eqb, ne_eqb}
 use lib.Dec.{ltb, eqb}
 use lib.ListN.{length, take, drop, length-drop}
+use Rattle.std.specs.Prelude.{Result, Ok, Err, IsErrAnd, ⊤}
+use Rattle.answers.specs.declared.Ran.{Ran}
+use Rattle.answers.specs.declared.Refusal.{Refusal}
+use Rattle.answers.specs.Numbers.{number, refused, Answer, answered}
+use Rattle.answers.proofs.Numbers.{number-above}
 use Rattle.bits.specs.Choice.{pick}
 use Rattle.bits.specs.Order.{bit_at}
 use Rattle.frame.specs.declared.modes.Row.{Row}
@@ -18,13 +23,13 @@ use Rattle.frame.proofs.Lane.{lane_from}
 use Rattle.frame.proofs.Rows.{few}
 use Rattle.frame.proofs.Sizes.{octets-some}
 use Rattle.receiver.specs.declared.Receiver.{Receiver}
-use Rattle.receiver.specs.declared.Received.{Received}
 use Rattle.receiver.specs.declared.run.Begun.{Begun}
 use Rattle.receiver.specs.Release.{Step, waiting_at, run}
 use Rattle.receiver.specs.Totals.{totalled}
 use Rattle.receiver.specs.Refusal.{releases, refusal_of}
 use Rattle.receiver.specs.Entry.{done, laid_out, entry}
-use Rattle.receiver.specs.inner.Turn.{begun_by, Room}
+use Rattle.receiver.specs.inner.Turn.{begun_by}
+use Rattle.receiver.specs.inner.Turn as turn
 use Rattle.receiver.proofs.Counts.{step-first}
 use Rattle.receiver.proofs.Cut.{then, run-cut, bits-from}
 use Rattle.receiver.proofs.Refusals.{Accepted, accepted}
@@ -89,21 +94,29 @@ taken-within size taken long some h = (le-div_iff_mul-le some).1 (omega (arith, 
 
 -- ---- refused, or all of the lane
 
-module _ (mode : ℕ) (s : Receiver) (lane o st c p q i : List ℕ) (refusal : ℕ) (e : refusal ≡ refusal_of mode s (length lane) (length o) (length st) (length c) (length p) (length q) (length i)) where
-  pub is-refused : (refusal ≡ 0 → ⊥) → done (record { refusal = refusal; count = 0; state = s }) o st c p q i ≡ entry mode s lane o st c p q i
+module _ (mode : ℕ) (s : Receiver) (lane o st c p q i : List ℕ) where
+  abbrev refusal : ℕ
+  refusal = refusal_of mode s (length lane) (length o) (length st) (length c) (length p) (length q) (length i)
+
+  -- a refusal is passed on as it is
+  pub is-refused : (r : Result ⊤ Refusal) → refused r ≡ refusal → (why : Refusal) → r ≡ Err why → (answer : Result (Ran Receiver) Refusal) → IsErrAnd answer (λ x. x ≡ why)
+      → done (answered s answer) o st c p q i ≡ entry mode s lane o st c p q i
   unfolding entry
-  is-refused h = rw (← e, ne_eqb refusal 0 h)
+  is-refused r e why f (Ok ran) n = absurd n
+  is-refused r e why f (Err own) n =
+      let is : number own ≡ refusal = ap number n ∙ sym (ap refused f) ∙ e in
+      rw (← is, ne_eqb (number own) 0 (number-above own))
 
   module _ (z : refusal ≡ 0) where
     abbrev R : Row
     R = row mode
 
     ok : Accepted mode s (length lane) (length o) (length st) (length c) (length p) (length q) (length i)
-    ok = accepted mode s (length lane) (length o) (length st) (length c) (length p) (length q) (length i) (sym e ∙ z)
+    ok = accepted mode s (length lane) (length o) (length st) (length c) (length p) (length q) (length i) z
 
     is-run : entry mode s lane o st c p q i ≡ laid_out (totalled (run R (bit_at lane) s (n R s lane))) o st c p q i
     unfolding entry
-    is-run = rw (← e, eq-eqb refusal 0 z)
+    is-run = rw (eq-eqb refusal 0 z)
 
     whole : length lane ≡ L R s lane * n R s lane
     whole = omega (arith, div-add-mod (length lane) (L R s lane), ok.whole)
@@ -118,7 +131,7 @@ module _ (mode : ℕ) (s : Receiver) (lane o st c p q i : List ℕ) (refusal : �
           ((0 < length lane / size - b.taken → b.state.waiting ≡ true)
           × (size * (length lane / size - b.taken) ≤ length (take (length lane - size * b.taken) (drop (size * b.taken) lane)))
           × (length lane / size - b.taken ≤ most_of_all))
-          × Room (length lane / size - b.taken) (length o) (length st) (length c) (length p) (length q) (length i)
+          × turn.Room (length lane / size - b.taken) (length o) (length st) (length c) (length p) (length q) (length i)
 
       pub ready : (size : ℕ) → size ≡ lane_octets R.gap → Ready size
       ready size es = subst Ready (sym es) (
@@ -135,10 +148,10 @@ module _ (mode : ℕ) (s : Receiver) (lane o st c p q i : List ℕ) (refusal : �
           ),
           omega (arith, ok.few, few mode),
         ),
-        subst (λ (k : ℕ). Room k (length o) (length st) (length c) (length p) (length q) (length i)) (sym from.left) ok.room,
+        subst (λ (k : ℕ). turn.Room k (length o) (length st) (length c) (length p) (length q) (length i)) (sym from.left) ok.room,
       )
 
-      pub is_all : (own : Row) → own ≡ R → (size : ℕ) → size ≡ lane_octets R.gap → (r : Received) (o' st' c' p' q' i' : List ℕ)
+      pub is_all : (own : Row) → own ≡ R → (size : ℕ) → size ≡ lane_octets R.gap → (r : Answer Receiver) (o' st' c' p' q' i' : List ℕ)
           → done r o' st' c' p' q' i' ≡ laid_out (totalled (run own (bit_at (take (length lane - size * b.taken) (drop (size * b.taken) lane))) b.state (length lane / size - b.taken))) o st c p q i
           → done r o' st' c' p' q' i' ≡ entry mode s lane o st c p q i
       is_all own eo size es r o' st' c' p' q' i' h =
@@ -152,21 +165,18 @@ module _ (mode : ℕ) (s : Receiver) (lane o st c p q i : List ℕ) (refusal : �
 -- ---- an accepted call, by its answer
 
 module _ (mode : ℕ) (s : Receiver) (lane o st c p q i : List ℕ) where
-  abbrev refusal : ℕ
-  refusal = refusal_of mode s (length lane) (length o) (length st) (length c) (length p) (length q) (length i)
-
-  answered : (entry mode s lane o st c p q i).answer.refusal ≡ refusal
+  told : (entry mode s lane o st c p q i).answer.refusal ≡ refusal mode s lane o st c p q i
   unfolding entry
-  answered = by (eqb refusal 0) refl
+  told = by (eqb (refusal mode s lane o st c p q i) 0) refl
     where
-      by : (b : Bool) → eqb refusal 0 ≡ b
-          → (pick b (laid_out (totalled (run (row mode) (bit_at lane) s (length lane / lane_octets (row mode).gap))) o st c p q i) (done (record { refusal = refusal; count = 0; state = s }) o st c p q i)).answer.refusal ≡ refusal
-      by true e = sym (eqb-true refusal 0 e)
+      by : (b : Bool) → eqb (refusal mode s lane o st c p q i) 0 ≡ b
+          → (pick b (laid_out (totalled (run (row mode) (bit_at lane) s (length lane / lane_octets (row mode).gap))) o st c p q i) (done (record { refusal = refusal mode s lane o st c p q i; count = 0; state = s }) o st c p q i)).answer.refusal ≡ refusal mode s lane o st c p q i
+      by true e = sym (eqb-true (refusal mode s lane o st c p q i) 0 e)
       by false e = refl
 
   module _ (z : (entry mode s lane o st c p q i).answer.refusal ≡ 0) where
     pub all-run : entry mode s lane o st c p q i ≡ laid_out (totalled (run (row mode) (bit_at lane) s (length lane / lane_octets (row mode).gap))) o st c p q i
-    all-run = is-run mode s lane o st c p q i refusal refl (sym answered ∙ z)
+    all-run = is-run mode s lane o st c p q i (sym told ∙ z)
 
     pub all_whole : length lane ≡ lane_octets (row mode).gap * (length lane / lane_octets (row mode).gap)
-    all_whole = whole mode s lane o st c p q i refusal refl (sym answered ∙ z)
+    all_whole = whole mode s lane o st c p q i (sym told ∙ z)

@@ -17,7 +17,7 @@ use Rattle.frame.specs.SyncWord.{read_parts, whole, flagged_command}
 use Rattle.frame.proofs.Lane.{lane_from, octets-moved, header-at-moved, sync-moved, invalid-moved, same-octets}
 use Rattle.receiver.specs.declared.Receiver.{Receiver}
 use Rattle.receiver.specs.declared.run.Heard.{Heard}
-use Rattle.judge.specs.Judge.{judged, mended, released_status, trusted_after}
+use Rattle.judge.specs.Judge.{place_of, pattern_of, judged, mended, released_status, trusted_after}
 use Rattle.receiver.specs.Release.{Release, Step, parity_at, verdict_at, mended_at, release_at, waiting_at, step, run}
 use Rattle.receiver.specs.inner.Turn.{heard_at}
 
@@ -35,8 +35,8 @@ module _ (R : Row) (s : Receiver) where
     octets = descrambled (mended_on h) s.history 256;
     status = released_status (judged R.sync s.octets (parity_on h)) s.trusted;
     command = s.command;
-    place = (judged R.sync s.octets (parity_on h)).place;
-    pattern = (judged R.sync s.octets (parity_on h)).pattern;
+    place = place_of (judged R.sync s.octets (parity_on h));
+    pattern = pattern_of (judged R.sync s.octets (parity_on h));
     invalid = s.invalid;
   }
 

@@ -3,13 +3,15 @@ use mathlib.Core.Path.{◌≡◌, refl, sym, ap, ◌∙◌, subst}
 use mathlib.Core.Logic.{⊎_elim}
 use mathlib.Core.Bool.{Bool, true, false}
 use mathlib.Core.List.{List, [], ◌∷◌, ◌++◌}
-use Prim.Native.Nat.{ℕ, zero, suc, ◌+◌, ◌%◌, ◌<◌, ◌≤◌}
+use Prim.Native.Nat.{ℕ, zero, suc, ◌+◌, ◌%◌, ◌<◌, ◌≤◌, min}
 use native.Mathlib.Omega.{arith}
-use borrow.Author.Tests.{le-ltb, eq-eqb, ne_eqb, ltb-true, ltb-false}
+use borrow.Author.Tests.{le-ltb, ltb-true, ltb-false}
 use lib.Dec.{ltb, eqb}
 use lib.ListN.{length, length-append}
 use Rattle.bits.specs.Choice.{pick, bit_of}
 use Rattle.frame.specs.declared.modes.Row.{Row}
+use Rattle.judge.specs.declared.Verdict.{Verdict}
+use Rattle.judge.specs.Judge.{status_of, released_status}
 use Rattle.receiver.specs.declared.Receiver.{Receiver}
 use Rattle.receiver.specs.Release.{fresh, Release, Step, release_at, step, run}
 use Rattle.receiver.specs.Totals.{most_count, stopped, added, total, totalled, how_many}
@@ -52,21 +54,20 @@ stopped-le n = by (ltb n most_count) refl
 
 -- ---- one release more
 
-module _ (kind count status : ℕ) where
-  pub other-kind : (status % 4 ≡ kind → ⊥) → count ≡ added kind count status
-  unfolding added
-  other-kind h = rw (ne_eqb (status % 4) kind h)
+-- by a sum that stops at the greatest number of 32 bits
+pub one_more : (count : ℕ) → min (count + 1) most_count ≡ stopped (suc count)
+unfolding stopped
+one_more count = by (ltb (suc count) most_count) refl
+  where
+    by : (b : Bool) → ltb (suc count) most_count ≡ b → min (count + 1) most_count ≡ pick b (suc count) most_count
+    by true e = omega (arith, ltb-true (suc count) most_count e)
+    by false e = omega (arith, ltb-false (suc count) most_count e)
 
-  module _ (e : status % 4 ≡ kind) where
-    same_kind : added kind count status ≡ stopped (suc count)
-    unfolding added
-    same_kind = rw (eq-eqb (status % 4) kind e)
-
-    pub stays : count ≡ most_count → count ≡ added kind count status
-    stays g = g ∙ sym (same_kind ∙ stopped-past (suc count) (omega (arith, g)))
-
-    pub one_more : count < most_count → count + 1 ≡ added kind count status
-    one_more h = omega (arith, same_kind, stopped-below (suc count) (omega arith))
+-- a history that isn't trusted makes no difference
+pub same-kind : (kind count : ℕ) (v : Verdict) (trusted : Bool) → added kind count (status_of v) ≡ added kind count (released_status v trusted)
+unfolding added released_status
+same-kind kind count v true = ap (λ (n : ℕ). pick (eqb (n % 4) kind) (stopped (suc count)) count) {x = status_of v} {y = status_of v + 0} (omega arith)
+same-kind kind count v false = ap (λ (n : ℕ). pick (eqb n kind) (stopped (suc count)) count) {x = status_of v % 4} {y = (status_of v + 4) % 4} (omega arith)
 
 -- ---- all of them
 

@@ -18,20 +18,24 @@ use Rattle.frame.specs.SyncWord.{whole}
 use Rattle.judge.specs.declared.Released.{Released}
 use Rattle.receiver.specs.declared.Receiver.{Receiver}
 use Rattle.receiver.specs.declared.run.Heard.{Heard}
-use Rattle.judge.specs.Judge.{judged, mended, released_status, trusted_after}
+use Rattle.receiver.specs.declared.run.Counts.{Counts}
+use Rattle.receiver.specs.declared.run.Told.{Told}
+use Rattle.receiver.specs.declared.run.Turn.{Turn}
+use Rattle.judge.specs.Judge.{place_of, pattern_of, judged, mended, released_status, trusted_after}
 use Rattle.receiver.specs.Release.{Release, Step, parity_at, verdict_at, mended_at, release_at, waiting_at, step, run}
-use Rattle.receiver.specs.Totals.{added, total, totalled}
+use Rattle.receiver.specs.Totals.{total, totalled}
 use Rattle.receiver.specs.Entry.{octets_out, column, done, laid_out}
-use Rattle.receiver.specs.inner.Turn.{heard_at, Room, Turned}
+use Rattle.receiver.specs.inner.Turn.{heard_at, counts_after, Room, Turned}
 use Rattle.receiver.proofs.Buffers.{column-more, column-length, octets-more, release_length, octets-length}
 use Rattle.receiver.proofs.Counts.{step-released, run_more, run-waits, all-counted, counted}
 use Rattle.receiver.proofs.Cut.{same_step, same-release, heard-from, bits-from}
+use Rattle.receiver.proofs.Totalled.{same-kind}
 use Rattle.receiver.proofs.Carried.{same-released, step-carries, counted-on}
 
 -- ---- one turn
 
 -- what the code of a turn computes, put together
-pub turned : (R : Row) (s : Receiver) (lane : List ℕ) (k : ℕ) (o st c p q i o' : List ℕ) (heard : Heard) (parity : ℕ) (r : Released) (sound repaired failed : ℕ)
+pub turned : (R : Row) (s : Receiver) (lane : List ℕ) (o o' : List ℕ) (heard : Heard) (parity : ℕ) (r : Released) (counts : Counts) (place pattern : ℕ)
     → s.waiting ≡ true
     → 256 ≤ length o
     → heard ≡ heard_at R (bit_at lane) 0
@@ -41,24 +45,23 @@ pub turned : (R : Row) (s : Receiver) (lane : List ℕ) (k : ℕ) (o st c p q i 
     → r.history ≡ number (bit_at (mended r.verdict s.octets)) 1990 58
     → r.trusted ≡ trusted_after r.verdict
     → o' ≡ laid_at (descrambled (mended r.verdict s.octets) s.history 256) 0 o
-    → sound ≡ added 0 s.sound r.status
-    → repaired ≡ added 1 s.repaired r.status
-    → failed ≡ added 2 s.failed r.status
-    → Turned (totalled (step R (bit_at lane) 0 s)).state (release_at R (bit_at lane) 0 s) k
-    (record { waiting = true; octets = heard.octets; history = r.history; trusted = r.trusted; command = heard.command; invalid = heard.invalid; own = heard.parts.own; sound = sound; repaired = repaired; failed = failed })
-    o st c p q i o' (set st k r.status) (set c k s.command) (set p k r.verdict.place) (set q k r.verdict.pattern) (set i k s.invalid)
-unfolding step waiting_at release_at mended_at verdict_at parity_at heard_at total
-turned R s lane k o st c p q i o' heard parity r sound repaired failed w room eh ep ev em ey et eo ea eb ec =
+    → counts ≡ counts_after (record { sound = s.sound; repaired = s.repaired; failed = s.failed }) r.verdict
+    → place ≡ place_of r.verdict
+    → pattern ≡ pattern_of r.verdict
+    → Turned (totalled (step R (bit_at lane) 0 s)).state (release_at R (bit_at lane) 0 s)
+    (record {
+      state = record { waiting = true; octets = heard.octets; history = r.history; trusted = r.trusted; command = heard.command; invalid = heard.invalid; own = heard.parts.own; sound = counts.sound; repaired = counts.repaired; failed = counts.failed };
+      told = record { status = r.status; command = s.command; place = place; pattern = pattern; invalid = s.invalid };
+    })
+    o o'
+unfolding step waiting_at release_at mended_at verdict_at parity_at heard_at total counts_after
+turned R s lane o o' heard parity r counts place pattern w room eh ep ev em ey et eo ec el ea =
     let own : r.verdict ≡ verdict_at R (bit_at lane) 0 s =
     ev ∙ ap (judged R.sync s.octets) (ep ∙ ap (λ (h : Heard). whole R.sync (record { before = h.parts.before; own = s.own })) eh) in
     record {
-      state = rw (w, eh, ey, et, ea, eb, ec, em, own);
+      state = rw (w, eh, ey, et, ec, same-kind 0 s.sound r.verdict s.trusted, same-kind 1 s.repaired r.verdict s.trusted, same-kind 2 s.failed r.verdict s.trusted, own);
+      told = rw (em, el, ea, own);
       octets = eo ∙ laid-start _ o (omega (arith, length-descrambled (mended r.verdict s.octets) s.history 256)) ∙ rw own;
-      statuses = rw (em, own);
-      commands = refl;
-      places = rw own;
-      patterns = rw own;
-      invalid = refl;
     }
 
 -- a part to the end is what is left
@@ -114,10 +117,11 @@ module _ (R : Row) (lane : List ℕ) (start : Receiver) (k n : ℕ) (s : Receive
   pub still-waits : s.waiting ≡ true
   still-waits = ap (λ (x : Receiver). x.waiting) h.state ∙ run-waits R (bit_at lane) start k w
 
-  pub held_more : (rest : List ℕ) (r : Receiver) (part st' c' p' q' i' : List ℕ) → rest ≡ drop (lane_octets R.gap * k) lane → length part ≡ length (mid_of (256 * k) (length o - 256 * k) o)
-      → Turned (totalled (step R (bit_at rest) 0 s)).state (release_at R (bit_at rest) 0 s) k r (mid_of (256 * k) (length o - 256 * k) o) st c p q i part st' c' p' q' i'
-      → Held R (bit_at lane) start (k + 1) r o₀ st₀ c₀ p₀ q₀ i₀ (put_mid (256 * k) (length o - 256 * k) o part) st' c' p' q' i'
-  held_more rest r part st' c' p' q' i' er lp t =
+  pub held_more : (rest : List ℕ) (t : Turn) (part : List ℕ) → rest ≡ drop (lane_octets R.gap * k) lane → length part ≡ length (mid_of (256 * k) (length o - 256 * k) o)
+      → Turned (totalled (step R (bit_at rest) 0 s)).state (release_at R (bit_at rest) 0 s) t (mid_of (256 * k) (length o - 256 * k) o) part
+      → Held R (bit_at lane) start (k + 1) t.state o₀ st₀ c₀ p₀ q₀ i₀ (put_mid (256 * k) (length o - 256 * k) o part)
+      (set st k t.told.status) (set c k t.told.command) (set p k t.told.place) (set q k t.told.pattern) (set i k t.told.invalid)
+  held_more rest turn part er lp t =
       let f = bit_at lane in
       let was = run R f start k in
       let out = release_at R f k was.state in
@@ -143,26 +147,26 @@ module _ (R : Row) (lane : List ℕ) (start : Receiver) (k n : ℕ) (s : Receive
             ∙ ap (λ (x : List ℕ). laid x o₀) (sym (octets-more was.out out))
             ∙ ap (λ (x : List Release). laid (octets_out x) o₀) outs;
         statuses =
-            list-more (λ (x : Release). x.status) was.out out k st₀ st st' l (omega (arith, room.statuses-fit)) h.statuses (t.statuses ∙ ap (λ (x : Release). set st k x.status) is)
+            list-more (λ (x : Release). x.status) was.out out k st₀ st _ l (omega (arith, room.statuses-fit)) h.statuses (ap (λ (x : Told). set st k x.status) t.told ∙ ap (λ (x : Release). set st k x.status) is)
             ∙ ap (λ (x : List Release). laid (column (λ (y : Release). y.status) x) st₀) outs;
         commands =
-            list-more (λ (x : Release). x.command) was.out out k c₀ c c' l (omega (arith, room.commands-fit)) h.commands (t.commands ∙ ap (λ (x : Release). set c k x.command) is)
+            list-more (λ (x : Release). x.command) was.out out k c₀ c _ l (omega (arith, room.commands-fit)) h.commands (ap (λ (x : Told). set c k x.command) t.told ∙ ap (λ (x : Release). set c k x.command) is)
             ∙ ap (λ (x : List Release). laid (column (λ (y : Release). y.command) x) c₀) outs;
         places =
-            list-more (λ (x : Release). x.place) was.out out k p₀ p p' l (omega (arith, room.places-fit)) h.places (t.places ∙ ap (λ (x : Release). set p k x.place) is)
+            list-more (λ (x : Release). x.place) was.out out k p₀ p _ l (omega (arith, room.places-fit)) h.places (ap (λ (x : Told). set p k x.place) t.told ∙ ap (λ (x : Release). set p k x.place) is)
             ∙ ap (λ (x : List Release). laid (column (λ (y : Release). y.place) x) p₀) outs;
         patterns =
-            list-more (λ (x : Release). x.pattern) was.out out k q₀ q q' l (omega (arith, room.patterns-fit)) h.patterns (t.patterns ∙ ap (λ (x : Release). set q k x.pattern) is)
+            list-more (λ (x : Release). x.pattern) was.out out k q₀ q _ l (omega (arith, room.patterns-fit)) h.patterns (ap (λ (x : Told). set q k x.pattern) t.told ∙ ap (λ (x : Release). set q k x.pattern) is)
             ∙ ap (λ (x : List Release). laid (column (λ (y : Release). y.pattern) x) q₀) outs;
         invalid =
-            list-more (λ (x : Release). x.invalid) was.out out k i₀ i i' l (omega (arith, room.invalid-fit)) h.invalid (t.invalid ∙ ap (λ (x : Release). set i k x.invalid) is)
+            list-more (λ (x : Release). x.invalid) was.out out k i₀ i _ l (omega (arith, room.invalid-fit)) h.invalid (ap (λ (x : Told). set i k x.invalid) t.told ∙ ap (λ (x : Release). set i k x.invalid) is)
             ∙ ap (λ (x : List Release). laid (column (λ (y : Release). y.invalid) x) i₀) outs;
         octets-long = same_len_mid (256 * k) (length o - 256 * k) o part lp ∙ h.octets-long;
-        statuses-long = ap length t.statuses ∙ length-set st k _ ∙ h.statuses-long;
-        commands-long = ap length t.commands ∙ length-set c k _ ∙ h.commands-long;
-        places-long = ap length t.places ∙ length-set p k _ ∙ h.places-long;
-        patterns-long = ap length t.patterns ∙ length-set q k _ ∙ h.patterns-long;
-        invalid-long = ap length t.invalid ∙ length-set i k _ ∙ h.invalid-long;
+        statuses-long = length-set st k _ ∙ h.statuses-long;
+        commands-long = length-set c k _ ∙ h.commands-long;
+        places-long = length-set p k _ ∙ h.places-long;
+        patterns-long = length-set q k _ ∙ h.patterns-long;
+        invalid-long = length-set i k _ ∙ h.invalid-long;
       }
 
 -- all turns

@@ -7,7 +7,7 @@ use native.Mathlib.Omega.{arith}
 use Rattle.frame.specs.declared.modes.Sync.{Sync}
 use Rattle.frame.specs.declared.modes.Row.{Row}
 use Rattle.judge.specs.declared.Verdict.{Verdict}
-use Rattle.judge.specs.Judge.{judged, released_status}
+use Rattle.judge.specs.Judge.{status_of, place_of, pattern_of, judged, released_status}
 use Rattle.judge.proofs.Verdicts.{Cases, Judged, verdict-cases}
 use Rattle.judge.proofs.Judging.{status-trusted, status-untrusted}
 use Rattle.receiver.specs.declared.Receiver.{Receiver}
@@ -29,12 +29,12 @@ module _ (R : Row) (lane : ℕ → ℕ) where
       j : Judged R.sync v
       j = verdict-cases R.sync s.octets (parity_at R lane m s)
 
-      by : (t : Bool) → Released R.sync (record { octets = (release_at R lane m s).octets; status = released_status v t; command = s.command; place = v.place; pattern = v.pattern; invalid = s.invalid })
+      by : (t : Bool) → Released R.sync (record { octets = (release_at R lane m s).octets; status = released_status v t; command = s.command; place = place_of v; pattern = pattern_of v; invalid = s.invalid })
       by true = record {
         status = inl (omega (arith, status-trusted v, j.status));
-        cases = subst (λ (x : ℕ). Cases R.sync x v.place v.pattern) {x = v.status} {y = released_status v true % 4} (omega (arith, status-trusted v, j.status)) j.cases;
+        cases = subst (λ (x : ℕ). Cases R.sync x (place_of v) (pattern_of v)) {x = status_of v} {y = released_status v true % 4} (omega (arith, status-trusted v, j.status)) j.cases;
       }
       by false = record {
         status = inr (omega (arith, status-untrusted v), omega (arith, status-untrusted v, j.status));
-        cases = subst (λ (x : ℕ). Cases R.sync x v.place v.pattern) {x = v.status} {y = released_status v false % 4} (omega (arith, status-untrusted v, j.status)) j.cases;
+        cases = subst (λ (x : ℕ). Cases R.sync x (place_of v) (pattern_of v)) {x = status_of v} {y = released_status v false % 4} (omega (arith, status-untrusted v, j.status)) j.cases;
       }

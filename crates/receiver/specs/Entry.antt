@@ -1,12 +1,12 @@
 -- What a call of the receiver answers, and what the lent buffers hold after it: document 01, "What the receiver releases" and "Numbers of
 -- refusal"; request 7. Assumes nothing.
 use Rattle.std.specs.Prelude.{List, [], ◌∷◌, ◌++◌, ℕ, ◌/◌, eqb, length}
+use Rattle.answers.specs.Numbers.{Answer}
 use Rattle.bits.specs.Choice.{pick}
 use Rattle.bits.specs.Order.{bit_at, laid}
 use Rattle.frame.specs.Modes.{row}
 use Rattle.frame.specs.Lane.{lane_octets}
 use Rattle.receiver.specs.declared.Receiver.{Receiver}
-use Rattle.receiver.specs.declared.Received.{Received}
 use Rattle.receiver.specs.Release.{Release, Step, run}
 use Rattle.receiver.specs.Totals.{totalled}
 use Rattle.receiver.specs.Refusal.{refusal_of}
@@ -22,7 +22,7 @@ column f (r ∷ out) = f r ∷ column f out
 
 -- an answer, and the buffers at exit
 pub record Done : Type 0 where
-  pub answer : Received
+  pub answer : Answer Receiver
   pub octets : List ℕ
   pub statuses : List ℕ
   pub commands : List ℕ
@@ -30,7 +30,7 @@ pub record Done : Type 0 where
   pub patterns : List ℕ
   pub invalid : List ℕ
 
-abbrev pub done : Received → List ℕ → List ℕ → List ℕ → List ℕ → List ℕ → List ℕ → Done
+abbrev pub done : Answer Receiver → List ℕ → List ℕ → List ℕ → List ℕ → List ℕ → List ℕ → Done
 done r o s c p q i = record { answer = r; octets = o; statuses = s; commands = c; places = p; patterns = q; invalid = i }
 
 -- what a step released, laid over the start of each buffer

@@ -11,7 +11,7 @@ use Rattle.frame.specs.Modes.{before, own}
 use Rattle.frame.specs.SyncWord.{read_parity, whole, flagged_command}
 use Rattle.judge.specs.declared.Verdict.{Verdict}
 use Rattle.receiver.specs.declared.Receiver.{Receiver}
-use Rattle.judge.specs.Judge.{judged, mended, released_status, trusted_after}
+use Rattle.judge.specs.Judge.{place_of, pattern_of, judged, mended, released_status, trusted_after}
 
 -- nothing waiting, history 0 and no trust, and nothing counted
 abbrev pub fresh : Receiver
@@ -47,8 +47,8 @@ module _ (R : Row) (lane : ℕ → ℕ) where
     octets = descrambled (mended_at m s) s.history 256;
     status = released_status (verdict_at m s) s.trusted;
     command = s.command;
-    place = (verdict_at m s).place;
-    pattern = (verdict_at m s).pattern;
+    place = place_of (verdict_at m s);
+    pattern = pattern_of (verdict_at m s);
     invalid = s.invalid;
   }
 

@@ -2,18 +2,22 @@
 #![tactic(auto)]
 
 ghost use Rattle.std.specs.Prelude.{◌≡◌};
+ghost use Rattle.answers.specs.Numbers.{answered};
 ghost use Rattle.receiver.specs.Release.{fresh};
 ghost use Rattle.receiver.specs.Entry.{done, entry};
 
 mod refusal;
 mod run;
 
+use answers::{Ran, Refusal};
 use frame::modes;
+use multiblock::Layout;
+use refusal::Lengths;
 
 // What a receiver carries from one call to the next: whether a multiblock waits, its 256 scrambled octets, the history before it, whether
 // that is trusted, its command, how many of its headers were invalid, and what its own sync word carried of its parity (request 5); and how
 // many were released sound, repaired and failed so far (request 7).
-#[derive(Clone, Copy)]
+#[derive(Clone, Copy, Debug, PartialEq, Eq)]
 pub struct Receiver {
     pub waiting: bool,
     pub octets: [u8; 256],
@@ -25,14 +29,6 @@ pub struct Receiver {
     pub sound: u32,
     pub repaired: u32,
     pub failed: u32,
-}
-
-// A refusal, or 0 with the multiblocks released; and the state for the next call.
-#[derive(Clone, Copy)]
-pub struct Received {
-    pub refusal: u8,
-    pub count: usize,
-    pub state: Receiver,
 }
 
 impl Receiver {
@@ -66,41 +62,29 @@ pub fn receive(
     places: &mut [u16],
     patterns: &mut [u16],
     invalid: &mut [u8],
-) -> Received
-    ensures { done result octets.new statuses.new commands.new places.new patterns.new invalid.new
+) -> Result<Ran<Receiver>, Refusal>
+    ensures { done (answered state result) octets.new statuses.new commands.new places.new patterns.new invalid.new
         ≡ entry mode state lane.now octets.old statuses.old commands.old places.old patterns.old invalid.old }
 {
     let row = modes::row_of(mode);
     let numbers = modes::numbers_of(row);
-    let refusal = refusal::refusal_of(
-        mode,
-        row.most,
-        numbers,
-        state,
-        lane.len(),
-        octets.len(),
-        statuses.len(),
-        commands.len(),
-        places.len(),
-        patterns.len(),
-        invalid.len(),
-    );
-    if refusal != 0 {
-        return Received {
-            refusal,
-            count: 0,
-            state,
-        };
-    }
+    let lengths = Lengths {
+        octets: octets.len(),
+        statuses: statuses.len(),
+        commands: commands.len(),
+        places: places.len(),
+        patterns: patterns.len(),
+        invalid: invalid.len(),
+    };
+    refusal::check(mode, row.most, numbers, state, lane.len(), lengths)?;
     let size = numbers.octets;
-    let begun = run::begin(row, size, state, lane);
-    let first = begun.state;
+    let layout = Layout { row, size };
+    let begun = run::begin(layout, state, lane);
     let n = lane.len() / size - begun.taken;
     let from = size * begun.taken;
-    run::run(
-        row,
-        size,
-        first,
+    Ok(run::run(
+        layout,
+        begun.state,
         &lane[from..],
         n,
         octets,
@@ -109,5 +93,5 @@ pub fn receive(
         places,
         patterns,
         invalid,
-    )
+    ))
 }

@@ -1,158 +1,102 @@
 // What is refused, lowest number first: document 01, "Numbers of refusal".
 ghost use Rattle.std.specs.Prelude.{◌≡◌, ◌≤◌};
+ghost use Rattle.answers.specs.Numbers.{refused};
 ghost use Rattle.frame.specs.Modes.{row, numbers_of, most_of_all};
-ghost use Rattle.receiver.specs.Refusal.{all_zero, as_fresh, state_fits, releases, room_for, refusal_of};
+ghost use Rattle.receiver.specs.Refusal.{as_fresh, state_fits, releases, room_for, refusal_of};
 
 use crate::Receiver;
+use answers::Refusal;
 use frame::modes;
 use frame::modes::Numbers;
-
-fn all_zero(octets: &[u8]) -> bool
-    ensures { result ≡ all_zero octets.now }
-{
-    for i in 0..octets.len() {
-        if octets[i] != 0 {
-            return false;
-        }
-    }
-    true
-}
 
 // Whether all but the waiting flag is as in a fresh state.
 fn as_fresh(state: Receiver) -> bool
     ensures { result ≡ as_fresh state }
 {
-    if state.history != 0 {
-        return false;
-    }
-    if state.command != 0 {
-        return false;
-    }
-    if state.invalid != 0 {
-        return false;
-    }
-    if state.own != 0 {
-        return false;
-    }
-    if state.sound != 0 {
-        return false;
-    }
-    if state.repaired != 0 {
-        return false;
-    }
-    if state.failed != 0 {
-        return false;
-    }
-    if state.trusted {
-        return false;
-    }
-    let octets = state.octets;
-    all_zero(&octets[..])
+    let fresh = Receiver {
+        waiting: state.waiting,
+        ..Receiver::fresh()
+    };
+    state == fresh
 }
 
 // Whether each field of a state is in its range, where commands with their flag and own parts of parities are below bounds.
+#[tactic(auto, unfolding(crate::specs::Refusal::state_fits))]
 fn state_fits(flagged: u32, owns: u16, state: Receiver) -> bool
     ensures { result ≡ state_fits flagged owns state }
 {
-    if state.history >= 0x400_0000_0000_0000 {
-        return false;
-    }
-    if state.command >= flagged {
-        return false;
-    }
-    if state.invalid > 32 {
-        return false;
-    }
-    if state.own >= owns {
-        return false;
-    }
-    if state.waiting {
-        return true;
-    }
-    as_fresh(state)
+    state.history < 0x400_0000_0000_0000
+        && state.command < flagged
+        && state.invalid <= 32
+        && state.own < owns
+        && (state.waiting || as_fresh(state))
 }
 
 // How many are released when n are received.
+#[tactic(auto, unfolding(crate::specs::Refusal::releases))]
 fn releases(waiting: bool, n: usize) -> usize
     ensures { result ≡ releases waiting n }
 {
-    if waiting {
-        return n;
-    }
-    if n == 0 {
-        return 0;
-    }
-    n - 1
+    if waiting { n } else { n.saturating_sub(1) }
 }
 
-// Whether buffers of these lengths hold what k releases write.
-fn room_for(
-    k: usize,
-    octets: usize,
-    statuses: usize,
-    commands: usize,
-    places: usize,
-    patterns: usize,
-    invalid: usize,
-) -> bool
-    requires { k ≤ most_of_all }
-    ensures { result ≡ room_for k octets statuses commands places patterns invalid }
-{
-    if 256 * k > octets {
-        return false;
-    }
-    if k > statuses {
-        return false;
-    }
-    if k > commands {
-        return false;
-    }
-    if k > places {
-        return false;
-    }
-    if k > patterns {
-        return false;
-    }
-    if k > invalid {
-        return false;
-    }
-    true
+// The lengths of the lent buffers.
+#[derive(Clone, Copy)]
+pub(crate) struct Lengths {
+    pub(crate) octets: usize,
+    pub(crate) statuses: usize,
+    pub(crate) commands: usize,
+    pub(crate) places: usize,
+    pub(crate) patterns: usize,
+    pub(crate) invalid: usize,
 }
 
-// The lowest number that applies, or 0, by the state and the lengths of the lane and of the lent buffers.
-pub(crate) fn refusal_of(
+impl Lengths {
+    // Whether they hold what k releases write.
+    #[tactic(auto, unfolding(crate::specs::Refusal::room_for))]
+    fn hold(self, k: usize) -> bool
+        requires { k ≤ most_of_all }
+        ensures { result ≡ room_for k self.octets self.statuses self.commands self.places self.patterns self.invalid }
+    {
+        256 * k <= self.octets
+            && k <= self.statuses
+            && k <= self.commands
+            && k <= self.places
+            && k <= self.patterns
+            && k <= self.invalid
+    }
+}
+
+// The lowest refusal that applies, by the state, the length of the lane and those of the lent buffers.
+#[tactic(auto, unfolding(crate::specs::Refusal::refusal_of, bits::specs::Refusals::refusal_by))]
+pub(crate) fn check(
     mode: u8,
     most: usize,
     numbers: Numbers,
     state: Receiver,
     lane: usize,
-    octets: usize,
-    statuses: usize,
-    commands: usize,
-    places: usize,
-    patterns: usize,
-    invalid: usize,
-) -> u8
+    lengths: Lengths,
+) -> Result<(), Refusal>
     requires { (most ≡ (row mode).most) × (numbers ≡ numbers_of (row mode)) }
-    ensures { result ≡ refusal_of mode state lane octets statuses commands places patterns invalid }
+    ensures { refused result ≡ refusal_of mode state lane lengths.octets lengths.statuses lengths.commands lengths.places lengths.patterns lengths.invalid }
 {
     if !modes::known(mode) {
-        return 1;
+        return Err(Refusal::Mode);
     }
     if !state_fits(numbers.flagged, numbers.owns, state) {
-        return 3;
+        return Err(Refusal::State);
     }
     let size = numbers.octets;
     if lane % size != 0 {
-        return 4;
+        return Err(Refusal::Length);
     }
     let n = lane / size;
     if n > most {
-        return 5;
+        return Err(Refusal::Count);
     }
     let k = releases(state.waiting, n);
-    if !room_for(k, octets, statuses, commands, places, patterns, invalid) {
-        return 7;
+    if !lengths.hold(k) {
+        return Err(Refusal::Room);
     }
-    0
+    Ok(())
 }

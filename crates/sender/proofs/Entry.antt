@@ -1,12 +1,12 @@
 -- A call whole: what an accepted one may rely on, its two answers, and that the state it returns is accepted again.
 -- Document 01, "Numbers of refusal". Assumes nothing.
-use mathlib.Core.Path.{◌≡◌, refl, sym, ap, ◌∙◌, subst}
+use mathlib.Core.Path.{◌≡◌, refl, sym, ◌∙◌, subst}
 use mathlib.Core.Bool.{false, true≢false}
 use mathlib.Core.List.{List, []}
 use Prim.Native.Nat.{ℕ, ◌*◌, ◌/◌, ◌%◌, ◌^◌, ◌≤◌, ◌<◌}
 use native.Mathlib.Nat.{div-add-mod'}
 use native.Mathlib.Omega.{arith}
-use borrow.Author.Tests.{eqb-true, ltb-false, not-true, not-false, eq-eqb, ne_eqb}
+use borrow.Author.Tests.{eqb-true, ltb-false, not-true, not-false}
 use lib.Dec.{eqb}
 use lib.ListN.{length, get_or}
 use lib.Pow.{pow_pos}
@@ -18,8 +18,6 @@ use Rattle.frame.specs.declared.modes.Row.{Row}
 use Rattle.frame.specs.Modes.{row, command_width}
 use Rattle.frame.specs.Lane.{lane_octets}
 use Rattle.frame.proofs.Rows.{extent-within}
-use Rattle.multiblock.specs.Shape.{shape}
-use Rattle.multiblock.proofs.Shapes.{own-shape}
 use Rattle.sender.specs.declared.Sender.{Sender}
 use Rattle.sender.specs.Lane.{lane, after}
 use Rattle.sender.specs.Refusal.{refusals, refusal_of}
@@ -96,21 +94,8 @@ module _ (mode E : ℕ) (s : Sender) (user commands old : List ℕ) where
     pub returned-fits : Fits (row mode) E (entry mode E s user commands old).answer.state
     returned-fits = rw returned (run_fits (row mode) E s user commands fits)
 
-  -- ---- the two answers, as the code comes to them
+  -- ---- what the run needs
 
-  module _ (r : ℕ) (e : r ≡ refusal_of mode E s user commands old) where
-    pub is-refused : (r ≡ 0 → ⊥) → done (record { refusal = r; count = 0; state = s }) old ≡ entry mode E s user commands old
-    unfolding entry
-    is-refused h = rw (← e, ne_eqb r 0 h)
-
-    module _ (z : r ≡ 0) (R : Row) (own : R ≡ row mode) where
-      -- what the run needs, by the octets of a multiblock
-      pub ready : (size : ℕ) → size ≡ lane_octets R.gap → ((shape R.gap ≡ R.gap) × (size ≡ lane_octets R.gap)) × ((256 * length commands ≤ length user) × (size * length commands ≤ length old) × (s.number < E))
-      ready size es =
-          let ok = sym e ∙ z in
-          ((subst (λ (x : Row). shape x.gap ≡ x.gap) (sym own) (own-shape mode), es), (omega (arith, whole ok), subst (λ (x : ℕ). x * length commands ≤ length old) (sym (es ∙ ap (λ (x : Row). lane_octets x.gap) own)) (room ok), (fits ok).number))
-
-      pub is-sent : (next : Sender) (all : List ℕ) → next ≡ after R E s user commands → all ≡ laid (lane R E s user commands) old
-          → done (record { refusal = 0; count = length commands; state = next }) all ≡ entry mode E s user commands old
-      unfolding entry
-      is-sent next all en ea = rw (← e, eq-eqb r 0 z, en, ea, own)
+  module _ (e : 0 ≡ refusal_of mode E s user commands old) (R : Row) (own : R ≡ row mode) (size : ℕ) (es : size ≡ lane_octets R.gap) where
+    pub in-bounds : (256 * length commands ≤ length user) × (size * length commands ≤ length old) × (s.number < E)
+    in-bounds = rw (es, own) (omega (arith, whole (sym e)), room (sym e), (fits (sym e)).number)

@@ -4,4 +4,3 @@ pub mod States
 pub mod Turns
 pub mod Entry
 pub mod Multiblocks
-pub mod Refusals

@@ -1,19 +1,19 @@
 -- What a call of the sender answers, and what the lane holds after it: document 01, "Numbers of refusal". Assumes nothing.
 use Rattle.std.specs.Prelude.{List, ℕ, eqb, length}
+use Rattle.answers.specs.Numbers.{Answer}
 use Rattle.bits.specs.Choice.{pick}
 use Rattle.bits.specs.Order.{laid}
 use Rattle.frame.specs.Modes.{row}
 use Rattle.sender.specs.declared.Sender.{Sender}
-use Rattle.sender.specs.declared.Sent.{Sent}
 use Rattle.sender.specs.Lane.{lane, after}
 use Rattle.sender.specs.Refusal.{refusal_of}
 
 -- an answer, and the lane at exit
 pub record Done : Type 0 where
-  pub answer : Sent
+  pub answer : Answer Sender
   pub lane : List ℕ
 
-abbrev pub done : Sent → List ℕ → Done
+abbrev pub done : Answer Sender → List ℕ → Done
 done answer lane = record { answer = answer; lane = lane }
 
 -- refused, with all as it was; or a run, laid over the start of the lane

@@ -2,32 +2,26 @@
 #![tactic(auto)]
 
 ghost use Rattle.std.specs.Prelude.{◌≡◌};
+ghost use Rattle.answers.specs.Numbers.{answered};
 ghost use Rattle.sender.specs.Lane.{fresh};
 ghost use Rattle.sender.specs.Entry.{done, entry};
 
 mod refusal;
 mod run;
 
+use answers::{Ran, Refusal};
 use frame::modes;
+use multiblock::Layout;
 
 // What a sender carries from one call to the next: the last 58 bits sent, what the next sync word carries of the parity of the last multiblock,
 // the number of the next multiblock in its extended multiblock, and the register that the next block's fill bits are taken from.
 #[repr(C)]
-#[derive(Clone, Copy)]
+#[derive(Clone, Copy, Debug, PartialEq, Eq)]
 pub struct Sender {
     pub history: u64,
     pub parity: u32,
     pub number: u32,
     pub fill: u32,
-}
-
-// A refusal, or 0 with the multiblocks sent; and the state for the next call.
-#[repr(C)]
-#[derive(Clone, Copy)]
-pub struct Sent {
-    pub refusal: u8,
-    pub count: usize,
-    pub state: Sender,
 }
 
 impl Sender {
@@ -44,23 +38,24 @@ impl Sender {
 }
 
 // Sends 256 user octets for each command, over the start of `lane`.
-pub fn send(mode: u8, e: u32, state: Sender, user: &[u8], commands: &[u32], lane: &mut [u8]) -> Sent
-    ensures { done result lane.new ≡ entry mode e state user.now commands.now lane.old }
+#[tactic(auto, unfolding(crate::specs::Entry::entry))]
+pub fn send(
+    mode: u8,
+    e: u32,
+    state: Sender,
+    user: &[u8],
+    commands: &[u32],
+    lane: &mut [u8],
+) -> Result<Ran<Sender>, Refusal>
+    ensures { done (answered state result) lane.new ≡ entry mode e state user.now commands.now lane.old }
 {
+    refusal::check(mode, e, state, user, commands, lane)?;
     let row = modes::row_of(mode);
-    let numbers = modes::numbers_of(row);
-    let refusal = refusal::refusal_of(mode, row.most, numbers, e, state, user, commands, lane);
-    if refusal != 0 {
-        return Sent {
-            refusal,
-            count: 0,
-            state,
-        };
-    }
-    let after = run::send_all(row, numbers.octets, e, state, user, commands, lane);
-    Sent {
-        refusal: 0,
+    let size = modes::numbers_of(row).octets;
+    let layout = Layout { row, size };
+    let after = run::send_all(layout, e, state, user, commands, lane);
+    Ok(Ran {
         count: commands.len(),
         state: after,
-    }
+    })
 }

@@ -1,8 +1,5 @@
 use Rattle.judge.proofs.Mending.{Mending}
 use Rattle.judge.proofs.mend.Given as goal
 
-abbrev pub invariant-loop-left : goal.invariant-loop-left
-invariant-loop-left l = Mending l.initial.out l.initial.position l.initial.left l.out l.position l.left
-
-abbrev pub decreases-loop-left : goal.decreases-loop-left
-decreases-loop-left l = l.left
+abbrev pub invariant-loop-bit : goal.invariant-loop-bit
+invariant-loop-bit l = Mending l.initial.out l.burst.place l.burst.pattern l.out l.bit

@@ -1,4 +1,3 @@
-use Rattle.lock.specs.Table.{lock_step}
 use Rattle.lock.proofs.Accepted.{accepted-parts}
 use Rattle.lock.proofs.lock_next.Goals as goal
 
@@ -7,7 +6,3 @@ next-after-requires c = (accepted-parts c.args.width c.args.period c.args.lock c
 
 pub extended_after-extended-requires : goal.extended_after-extended-requires
 extended_after-extended-requires c = (accepted-parts c.args.width c.args.period c.args.lock c.requires).extended
-
-pub returns : goal.returns
-unfolding lock_step
-returns c = simp (c.extended_after-extended.ensures, c.next-after.ensures)

@@ -1,41 +1,44 @@
-use borrow.Author.Tests.{eq-eqb, ne_eqb}
-use Rattle.receiver.specs.Refusal.{as_fresh}
-use Rattle.receiver.proofs.Refusals.{all-fresh}
+-- `receiver::refusal::as_fresh` meets its contract: a state that equals a fresh one has the fields of one.
+use mathlib.Core.Bool.{Bool, true, false, not, ◌&&◌, beq}
+use mathlib.Core.List.{List, [], ◌∷◌}
+use mathlib.Core.Path.{◌≡◌, refl, sym, ap, ◌∙◌}
+use Prim.Native.Nat.{ℕ}
+use native.Mathlib.Omega.{arith}
+use lib.Dec.{eqb}
+use lib.ListN.{length, replicate}
+use lib.Pointwise.{pointwise}
+use Rattle.receiver.specs.declared.Receiver.{Receiver}
+use Rattle.receiver.specs.Release.{fresh}
+use Rattle.receiver.specs.Refusal.{all_zero, as_fresh}
 use Rattle.receiver.proofs.refusal.as_fresh.Goals as goal
 
-pub returns-then-state-ne0 : goal.returns-then-state-ne0
-unfolding as_fresh
-returns-then-state-ne0 c = simp (ne_eqb _ _ c.if-state-ne0.true)
+rearranged : (o h t c i n s r f : Bool) → o && (h && (t && (c && (i && (n && (s && (r && f))))))) ≡ (h && (c && (i && n))) && ((s && (r && f)) && (t && o))
+rearranged o h t c i n s r f = grind arith
 
-pub returns-then-state-ne0-2 : goal.returns-then-state-ne0-2
-unfolding as_fresh
-returns-then-state-ne0-2 c = simp (eq-eqb _ _ c.if-state-ne0.false, ne_eqb _ _ c.if-state-ne0-2.true)
+zeros : (l : List ℕ) → pointwise eqb l (replicate (length l) 0) ≡ all_zero l
+unfolding all_zero
+zeros [] = refl
+zeros (x ∷ l) = ap (λ (b : Bool). eqb x 0 && b) (zeros l)
 
-pub returns-then-state-ne0-3 : goal.returns-then-state-ne0-3
-unfolding as_fresh
-returns-then-state-ne0-3 c = simp (eq-eqb _ _ c.if-state-ne0.false, eq-eqb _ _ c.if-state-ne0-2.false, ne_eqb _ _ c.if-state-ne0-3.true)
+itself : (w b : Bool) → beq w w && b ≡ b
+itself true b = refl
+itself false b = refl
 
-pub returns-then-state-ne0-4 : goal.returns-then-state-ne0-4
-unfolding as_fresh
-returns-then-state-ne0-4 c = simp (eq-eqb _ _ c.if-state-ne0.false, eq-eqb _ _ c.if-state-ne0-2.false, eq-eqb _ _ c.if-state-ne0-3.false, ne_eqb _ _ c.if-state-ne0-4.true)
+untrusted : (t : Bool) → beq t false ≡ not t
+untrusted true = refl
+untrusted false = refl
 
-pub returns-then-state-ne0-5 : goal.returns-then-state-ne0-5
+by_fields : (s f : Receiver) → f ≡ fresh → length s.octets ≡ 256
+    → beq s.waiting s.waiting
+    && (pointwise eqb s.octets f.octets
+    && (eqb s.history f.history && (beq s.trusted f.trusted && (eqb s.command f.command && (eqb s.invalid f.invalid && (eqb s.own f.own && (eqb s.sound f.sound && (eqb s.repaired f.repaired && eqb s.failed f.failed))))))))
+    ≡ as_fresh s
 unfolding as_fresh
-returns-then-state-ne0-5 c = simp (eq-eqb _ _ c.if-state-ne0.false, eq-eqb _ _ c.if-state-ne0-2.false, eq-eqb _ _ c.if-state-ne0-3.false, eq-eqb _ _ c.if-state-ne0-4.false, ne_eqb _ _ c.if-state-ne0-5.true)
-
-pub returns-then-state-ne0-6 : goal.returns-then-state-ne0-6
-unfolding as_fresh
-returns-then-state-ne0-6 c = simp (eq-eqb _ _ c.if-state-ne0.false, eq-eqb _ _ c.if-state-ne0-2.false, eq-eqb _ _ c.if-state-ne0-3.false, eq-eqb _ _ c.if-state-ne0-4.false, eq-eqb _ _ c.if-state-ne0-5.false, ne_eqb _ _ c.if-state-ne0-6.true)
-
-pub returns-then-state-ne0-7 : goal.returns-then-state-ne0-7
-unfolding as_fresh
-returns-then-state-ne0-7 c = simp (eq-eqb _ _ c.if-state-ne0.false, eq-eqb _ _ c.if-state-ne0-2.false, eq-eqb _ _ c.if-state-ne0-3.false, eq-eqb _ _ c.if-state-ne0-4.false, eq-eqb _ _ c.if-state-ne0-5.false, eq-eqb _ _ c.if-state-ne0-6.false, ne_eqb _ _ c.if-state-ne0-7.true)
-
-pub returns-then-state : goal.returns-then-state
-unfolding as_fresh
-returns-then-state c = simp (eq-eqb _ _ c.if-state-ne0.false, eq-eqb _ _ c.if-state-ne0-2.false, eq-eqb _ _ c.if-state-ne0-3.false, eq-eqb _ _ c.if-state-ne0-4.false, eq-eqb _ _ c.if-state-ne0-5.false, eq-eqb _ _ c.if-state-ne0-6.false, eq-eqb _ _ c.if-state-ne0-7.false, c.if-state.true)
+by_fields s f e long =
+    rw e
+    (itself s.waiting _
+    ∙ rw (untrusted s.trusted, ap (λ (n : ℕ). pointwise eqb s.octets (replicate n 0)) (sym long) ∙ zeros s.octets)
+    (rearranged (all_zero s.octets) (eqb s.history 0) (not s.trusted) (eqb s.command 0) (eqb s.invalid 0) (eqb s.own 0) (eqb s.sound 0) (eqb s.repaired 0) (eqb s.failed 0)))
 
 pub returns : goal.returns
-unfolding as_fresh
-returns c =
-    all-fresh c.args.state c.all_zero.result c.if-state-ne0.false c.if-state-ne0-2.false c.if-state-ne0-3.false c.if-state-ne0-4.false c.if-state-ne0-5.false c.if-state-ne0-6.false c.if-state-ne0-7.false c.if-state.false c.all_zero.ensures
+returns c = c.eq.ensures ∙ by_fields c.args.state c.fresh.result c.fresh.ensures (omega arith)

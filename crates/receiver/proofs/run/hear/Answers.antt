@@ -5,6 +5,6 @@ pub returns : goal.returns
 returns c =
     let r = c.read-read in
     let a = c.args in
-    heard-is a.row a.lane.now r.result.first r.result.second c.carried-bits.result c.parities-parts.result c.command-command.result
-    c.invalid_count-invalid.result r.result.octets c.requires.0 c.requires.1 r.ensures.first_value r.ensures.second_value r.ensures.octets_value c.carried-bits.ensures
-    c.parities-parts.ensures c.command-command.ensures c.invalid_count-invalid.ensures
+    heard-is a.layout a.lane.now r.result.headers.first r.result.headers.second c.carried.result c.parities.result c.command.result
+    c.invalid_count.result r.result.octets c.requires r.ensures.first_value r.ensures.second_value r.ensures.octets_value c.carried.ensures
+    c.parities.ensures c.command.ensures c.invalid_count.ensures

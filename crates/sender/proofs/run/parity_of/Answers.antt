@@ -1,5 +1,5 @@
 -- `sender::run::parity_of` meets its contract: by the kind of sync word. Request 5.
-use mathlib.Core.Path.{◌≡◌, refl, sym, ap, ◌∙◌}
+use mathlib.Core.Path.{◌≡◌, refl, sym, ◌∙◌}
 use mathlib.Core.List.{List}
 use Prim.Native.Nat.{ℕ, ◌*◌}
 use native.Mathlib.Omega.{arith}
@@ -8,8 +8,6 @@ use Rattle.bits.specs.Order.{bit_at, word_bit, octets_in}
 use Rattle.bits.proofs.WordLists.{length-octets_in, bit-octets_in}
 use Rattle.parity.specs.Codeword.{Code, crc12, fec, crc3, no_code, data_bits, parity_of, multiblock_parity}
 use Rattle.parity.proofs.Groups.{parity-ext, one-group, no-group}
-use Rattle.frame.specs.declared.modes.Sync.{Sync}
-use Rattle.frame.specs.Modes.{code}
 use Rattle.sender.proofs.run.parity_of.Goals as goal
 
 -- of 32 blocks, by the words and by their octets
@@ -20,26 +18,14 @@ module _ (C : Code) (blocks : List ℕ) (long : length blocks ≡ 32) where
   in_some : data_bits C * C.groups ≡ 2048 → multiblock_parity C (word_bit blocks) ≡ multiblock_parity C (bit_at (octets_in blocks))
   in_some all = parity-ext C (word_bit blocks) (bit_at (octets_in blocks)) (λ q h. sym (bit-octets_in blocks q (omega (arith, all))))
 
--- the kind that a test found
-by_kind : (S found : Sync) (blocks : List ℕ) (r : ℕ) → S ≡ found → r ≡ multiblock_parity (code found) (bit_at (octets_in blocks)) → r ≡ multiblock_parity (code S) (bit_at (octets_in blocks))
-by_kind S found blocks r e p = p ∙ ap (λ (S : Sync). multiblock_parity (code S) (bit_at (octets_in blocks))) (sym e)
-
 pub returns-in-Crc12 : goal.returns-in-Crc12
-returns-in-Crc12 c =
-    let blocks = c.args.blocks.now in
-    by_kind _ _ blocks _ c.in-Crc12.is (c.of_words.ensures ∙ in_one crc12 blocks c.requires refl refl)
+returns-in-Crc12 c = rw c.in-Crc12.is (c.of_words.ensures ∙ in_one crc12 c.args.blocks.now c.requires refl refl)
 
 pub returns-in-Fec : goal.returns-in-Fec
-returns-in-Fec c =
-    let blocks = c.args.blocks.now in
-    by_kind _ _ blocks _ c.in-Fec.is (c.of_words-in-Fec.ensures ∙ in_one fec blocks c.requires refl refl)
+returns-in-Fec c = rw c.in-Fec.is (c.of_words-in-Fec.ensures ∙ in_one fec c.args.blocks.now c.requires refl refl)
 
 pub returns-in-Crc3 : goal.returns-in-Crc3
-returns-in-Crc3 c =
-    let blocks = c.args.blocks.now in
-    by_kind _ _ blocks _ c.in-Crc3.is (c.of_words-in-Crc3.ensures ∙ in_some crc3 blocks c.requires refl)
+returns-in-Crc3 c = rw c.in-Crc3.is (c.of_words-in-Crc3.ensures ∙ in_some crc3 c.args.blocks.now c.requires refl)
 
 pub returns-in-Command : goal.returns-in-Command
-returns-in-Command c =
-    let blocks = c.args.blocks.now in
-    by_kind _ _ blocks _ c.in-Command.is (sym (no-group no_code refl (bit_at (octets_in blocks))))
+returns-in-Command c = rw c.in-Command.is (sym (no-group no_code refl (bit_at (octets_in c.args.blocks.now))))
