@@ -9,14 +9,18 @@ use native.Mathlib.Decide.{ℕ_discrete}
 use borrow.Author.Tests.{le-ltb, ltb-false, eq-eqb, ne_eqb}
 use lib.Dec.{ltb, eqb}
 use lib.ListN.{length, take}
+use Rattle.std.specs.Prelude.{Result, Ok, Err, IsOk}
+use Rattle.answers.specs.declared.Refusal.{Refusal}
+use Rattle.answers.specs.Numbers.{Counted, counted}
 use Rattle.bits.specs.Choice.{pick}
 use Rattle.bits.specs.Refusals.{Line, ◌when◌, refusal_by}
+use Rattle.bits.specs.Order.{laid}
 use Rattle.bits.proofs.Laid.{length-laid, taken_back}
 use Rattle.bits.proofs.Refusals.{none_left, passed, not-given}
-use Rattle.text.specs.declared.Listed.{Listed}
+use Rattle.answers.proofs.Numbers.{number-above}
 use Rattle.text.specs.Text.{refused_line}
 use Rattle.text.specs.Writing.{Done, done, answer_of, room_over}
-use Rattle.text.proofs.Refusals.{Counted, refused, answered, counted, whole, with-room}
+use Rattle.text.proofs.Refusals.{Stands, stands, refused, answered, whole, with-room}
 use Rattle.text.proofs.Short.{refusal-short}
 use Rattle.capture.specs.Form.{refusals_by}
 use Rattle.capture.proofs.Refusals.{still-refused, not-yet-refused}
@@ -42,8 +46,8 @@ module _ (taken : ℕ → Bool) (capture new text : List ℕ) where
 
   -- ---- what they say: what is counted stands in the text, which keeps its length
 
-  so-counted : Counted (refusal_by all) text (answer_of (refusal_by all) new text)
-  so-counted = counted _ new text (λ z. ltb-false (length text) (length new) (not-given 7 all tt z))
+  so-counted : Stands (refusal_by all) text (answer_of (refusal_by all) new text)
+  so-counted = stands _ new text (λ z. ltb-false (length text) (length new) (not-given 7 all tt z))
 
   room-enough : (refusal_by table ≡ 0 → length new ≤ length text) → refusal_by all ≡ refusal_by table
   room-enough fits = by (ℕ_discrete (refusal_by table) 0)
@@ -52,7 +56,7 @@ module _ (taken : ℕ → Bool) (capture new text : List ℕ) where
       by (no n) = sym (still-refused taken capture _ n)
       by (yes z) = sym (not-yet-refused taken capture _ z) ∙ sym (none_left ∙ passed 7 _ [] (le-ltb (length text) (length new) (fits z))) ∙ sym z
 
-  module _ (text' : List ℕ) (r : Listed) (e : done r text' ≡ answer_of (refusal_by all) new text) where
+  module _ (text' : List ℕ) (r : Counted) (e : done r text' ≡ answer_of (refusal_by all) new text) where
     kept-length : length text' ≡ length text
     kept-length = ap (λ (x : Done). length x.text) e ∙ so-counted.long
 
@@ -71,12 +75,26 @@ module _ (taken : ℕ → Bool) (capture new text : List ℕ) where
           let is = e ∙ whole _ new text (room-enough fits ∙ none) in
           (counted-within, rw (ap (λ (x : Done). x.answer.count) is, ap (λ (x : Done). x.text) is, eq-eqb (refusal_by table) 0 none) (taken_back new text))
 
-      pub line-printed : (r.refusal ≡ 0 → ⊥) → 29 ≤ length text → (line : Listed) (text'' : List ℕ) → done line text'' ≡ room_over (refused_line r.refusal) text'
-          → (line.count ≤ length text'') × (take line.count text'' ≡ printed_by (refusal_by table) new)
-      line-printed n room line text'' put =
-          let own = refused_line r.refusal in
-          let short : length own ≤ length text' = omega (arith, refusal-short r.refusal, room, kept-length) in
-          let is = put ∙ sym (with-room own text' short) in
-          let count = ap (λ (x : Done). x.answer.count) is in
-          let holds = ap (λ (x : Done). x.text) is in
-          (omega (arith, count, ap length holds, length-laid own text' short), rw (holds, count, ← by-table, ne_eqb r.refusal 0 n) (taken_back own text'))
+      -- there is room for the line
+      module _ (n : r.refusal ≡ 0 → ⊥) (room : 29 ≤ length text) (answer : Result ℕ Refusal) (text'' : List ℕ) (put : done (counted answer) text'' ≡ room_over (refused_line r.refusal) text') where
+        abbrev own : List ℕ
+        own = refused_line r.refusal
+
+        short : length own ≤ length text'
+        short = omega (arith, refusal-short r.refusal, room, kept-length)
+
+        is-put : done (counted answer) text'' ≡ done (record { refusal = 0; count = length own }) (laid own text')
+        is-put = put ∙ sym (with-room own text' short)
+
+        pub line-ok : IsOk answer
+        line-ok = by answer (ap (λ (x : Done). x.answer.refusal) is-put)
+          where
+            by : (a : Result ℕ Refusal) → (counted a).refusal ≡ 0 → IsOk a
+            by (Ok count) z = refl
+            by (Err why) z = absurd (number-above why z)
+
+        pub line-printed : (count : ℕ) → answer ≡ Ok count → (count ≤ length text'') × (take count text'' ≡ printed_by (refusal_by table) new)
+        line-printed count is =
+            let long : count ≡ length own = ap (λ (a : Result ℕ Refusal). (counted a).count) (sym is) ∙ ap (λ (x : Done). x.answer.count) is-put in
+            let holds : text'' ≡ laid own text' = ap (λ (x : Done). x.text) is-put in
+            (omega (arith, long, ap length holds, length-laid own text' short, short), rw (holds, long, ← by-table, ne_eqb r.refusal 0 n) (taken_back own text'))

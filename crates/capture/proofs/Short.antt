@@ -1,6 +1,6 @@
 -- A buffer of as many octets as the longest text has room for the listing of every accepted capture. Document 01, "Capture and listing". Assumes
 -- nothing.
-use mathlib.Core.Path.{◌≡◌, sym, ap, ◌∙◌}
+use mathlib.Core.Path.{◌≡◌, refl, sym, ap, ◌∙◌}
 use mathlib.Core.Logic.{◌⊎◌, inl, inr}
 use mathlib.Core.Bool.{true, true≢false}
 use mathlib.Core.List.{List}
@@ -9,26 +9,29 @@ use native.Mathlib.Nat.{not-suc-le-zero}
 use native.Mathlib.Omega.{arith}
 use native.Mathlib.Decide.{ℕ_discrete}
 use lib.ListN.{length, get_or, take}
+use Rattle.std.specs.Prelude.{Result, Ok, Err, IsOk}
+use Rattle.answers.specs.declared.Refusal.{Refusal}
+use Rattle.answers.specs.Numbers.{number, counted}
 use Rattle.bits.specs.Order.{bit_at}
 use Rattle.frame.specs.declared.modes.Sync.{Sync}
 use Rattle.frame.specs.declared.modes.Sync.TheVariants.{Crc12, Fec, Crc3, Command}
 use Rattle.frame.specs.declared.modes.Row.{Row}
 use Rattle.frame.specs.Modes.{code, repairs, known, row, most_of_all}
 use Rattle.frame.proofs.Rows.{few, most-is, extent-within}
+use Rattle.answers.proofs.Numbers.{number-above}
 use Rattle.receiver.specs.Release.{Release, fresh, release_at, run}
 use Rattle.receiver.specs.Entry.{column}
 use Rattle.receiver.proofs.Afresh.{all_but_one}
 use Rattle.receiver.proofs.Buffers.{column-length}
 use Rattle.receiver.proofs.Numbered.{nth, waiting, numbered, column-at}
 use Rattle.receiver.proofs.Verdicts.{Released, release-cases}
-use Rattle.text.specs.declared.Listed.{Listed}
 use Rattle.text.specs.Text.{refused_line}
 use Rattle.text.specs.Writing.{done, room_over}
 use Rattle.text.proofs.Short.{Few, text-short, listing-short as lines-short}
 use Rattle.capture.specs.Form.{mode_of, extent_of, lane_of, refusal_of}
 use Rattle.capture.specs.Listing.{received_in, releases_of, lane_text, listing_of, longest_text, listed}
-use Rattle.capture.proofs.Refusals.{accepted}
-use Rattle.capture.proofs.Answers.{printed_by, counted-within, text-printed, line-printed}
+use Rattle.capture.proofs.Refusals.{accepted, receivable}
+use Rattle.capture.proofs.Answers.{printed_by, counted-within, text-printed, line-ok, line-printed}
 use Rattle.capture.proofs.Received.{received-few, released-are}
 
 pub longest-text : longest_text ≡ 18 + 15 * (240 - 1)
@@ -91,9 +94,10 @@ module _ (R : Row) (lane : List ℕ) where
       (few-released R lane i l)
 
 pub listing-short : (capture : List ℕ) → refusal_of capture ≡ 0 → length (listing_of capture) ≤ longest_text
-unfolding listing_of lane_text longest_text
+unfolding refusal_of listing_of lane_text longest_text
 listing-short capture z =
-    let ok = accepted capture z in
+    let a = accepted known capture z in
+    let ok = receivable capture a a.mode in
     let R = row (mode_of capture) in
     let lane = lane_of capture in
     let n = received_in R lane in
@@ -101,7 +105,7 @@ listing-short capture z =
     let number : length (statuses R lane) ≡ n - 1 = column-length (λ (r : Release). r.status) (releases_of R lane) ∙ released-are R lane in
     omega (
       arith,
-      text-short (statuses R lane) (places R lane) (patterns R lane) R (extent_of capture) n (omega (arith, (extent-within (extent_of capture) ok.extent).1))
+      text-short (statuses R lane) (places R lane) (patterns R lane) R (extent_of capture) n (omega (arith, (extent-within (extent_of capture) a.extent).1))
           (omega (arith, within, most-is)) (omega (arith, within, most-is, number)) (few-listed R lane),
       number,
       within,
@@ -111,20 +115,28 @@ listing-short capture z =
 
 -- ---- so that no capture is refused for want of room
 
-module _ (capture text text' : List ℕ) (r : Listed) (e : done r text' ≡ listed capture text) where
-  pub count-within : r.count ≤ length text'
-  unfolding listed
-  count-within = counted-within known capture (listing_of capture) text text' r e
+pub count-within : (capture text text' : List ℕ) (count : ℕ) → done (counted (Ok count)) text' ≡ listed capture text → count ≤ length text'
+unfolding listed
+count-within capture text text' count e = counted-within known capture (listing_of capture) text text' (counted (Ok count)) e
 
-  module _ (room : longest_text ≤ length text) where
-    fits : refusal_of capture ≡ 0 → length (listing_of capture) ≤ length text
-    fits z = omega (arith, listing-short capture z, room)
+module _ (capture text text' : List ℕ) (room : longest_text ≤ length text) where
+  fits : refusal_of capture ≡ 0 → length (listing_of capture) ≤ length text
+  fits z = omega (arith, listing-short capture z, room)
 
-    pub listing-printed : r.refusal ≡ 0 → (r.count ≤ length text') × (take r.count text' ≡ printed_by (refusal_of capture) (listing_of capture))
+  pub listing-printed : (count : ℕ) → done (counted (Ok count)) text' ≡ listed capture text
+      → (count ≤ length text') × (take count text' ≡ printed_by (refusal_of capture) (listing_of capture))
+  unfolding refusal_of listed
+  listing-printed count e = text-printed known capture (listing_of capture) text text' (counted (Ok count)) e fits refl
+
+  module _ (why : Refusal) (e : done (counted (Err why)) text' ≡ listed capture text)
+      (answer : Result ℕ Refusal) (text'' : List ℕ) (put : done (counted answer) text'' ≡ room_over (refused_line (number why)) text') where
+    abbrev enough : 29 ≤ length text
+    enough = omega (arith, room, longest-text)
+
+    pub refusal-fits : IsOk answer
     unfolding refusal_of listed
-    listing-printed = text-printed known capture (listing_of capture) text text' r e fits
+    refusal-fits = line-ok known capture (listing_of capture) text text' (counted (Err why)) e fits (number-above why) enough answer text'' put
 
-    pub refusal-printed : (r.refusal ≡ 0 → ⊥) → (line : Listed) (text'' : List ℕ) → done line text'' ≡ room_over (refused_line r.refusal) text'
-        → (line.count ≤ length text'') × (take line.count text'' ≡ printed_by (refusal_of capture) (listing_of capture))
+    pub refusal-printed : (count : ℕ) → answer ≡ Ok count → (count ≤ length text'') × (take count text'' ≡ printed_by (refusal_of capture) (listing_of capture))
     unfolding refusal_of listed
-    refusal-printed n = line-printed known capture (listing_of capture) text text' r e fits n (omega (arith, room, longest-text))
+    refusal-printed = line-printed known capture (listing_of capture) text text' (counted (Err why)) e fits (number-above why) enough answer text'' put

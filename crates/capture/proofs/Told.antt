@@ -3,19 +3,24 @@
 use mathlib.Core.Path.{◌≡◌, refl, sym, ap, ◌∙◌}
 use mathlib.Core.Bool.{true, not}
 use mathlib.Core.List.{List, [], ◌∷◌}
-use Prim.Native.Nat.{ℕ, zero, suc, ◌+◌, ◌-◌, ◌*◌, ◌/◌, ◌≤◌, ◌<◌}
+use Prim.Native.Nat.{ℕ, zero, suc, ◌+◌, ◌-◌, ◌*◌, ◌≤◌, ◌<◌}
 use native.Mathlib.Nat.{not-suc-le-zero}
 use native.Mathlib.Omega.{arith}
 use borrow.Author.Tests.{not-true, le-ltb, lt-ltb}
 use lib.Dec.{ltb}
 use lib.ListN.{length, take}
 use Rattle.bits.specs.Bounds.{all_below}
+use Rattle.std.specs.Prelude.{Result, Ok, Err, IsOk}
+use Rattle.std.specs.Result.{IsErrAnd}
+use Rattle.std.proofs.lemmas.Result.{err_from_is_err_and}
+use Rattle.answers.specs.declared.Refusal.{Refusal}
+use Rattle.answers.specs.Numbers.{number, counted}
+use Rattle.answers.proofs.Numbers.{number-above}
 use Rattle.bits.specs.Order.{bit_at}
 use Rattle.bits.proofs.Choice.{both_true}
 use Rattle.bits.proofs.Refusals.{passed}
 use Rattle.frame.specs.declared.modes.Row.{Row}
-use Rattle.frame.specs.declared.modes.Numbers.{Numbers}
-use Rattle.frame.specs.Modes.{flagged_bound, row, numbers_of, most_of_all}
+use Rattle.frame.specs.Modes.{flagged_bound, row, most_of_all}
 use Rattle.frame.specs.Lane.{header_at}
 use Rattle.frame.proofs.SyncWord.{flagged-fits}
 use Rattle.frame.proofs.Rows.{few as most-of, most-is, extent-within}
@@ -24,7 +29,6 @@ use Rattle.receiver.specs.Entry.{column}
 use Rattle.receiver.proofs.Afresh.{all_but_one}
 use Rattle.receiver.proofs.Buffers.{column-length}
 use Rattle.receiver.proofs.Numbered.{nth, numbered, command-is}
-use Rattle.text.specs.declared.Listed.{Listed}
 use Rattle.text.specs.Text.{refused_line}
 use Rattle.text.specs.Writing.{done, room_over}
 use Rattle.text.specs.Messages.{messages_written}
@@ -34,9 +38,9 @@ use Rattle.capture.specs.Form.{mode_of, extent_of, lane_of}
 use Rattle.capture.specs.Listing.{received_in, releases_of}
 use Rattle.capture.specs.Messages.{has_commands, lane_messages, messages_of, longest_messages, messages_refusal, told}
 use Rattle.capture.specs.inner.Lists.{Lists}
-use Rattle.capture.proofs.Refusals.{accepted}
-use Rattle.capture.proofs.Channel.{accepted-too}
-use Rattle.capture.proofs.Answers.{printed_by, is-refused, is-written, text-printed, line-printed}
+use Rattle.capture.proofs.Refusals.{accepted, receivable}
+use Rattle.capture.proofs.Channel.{known_some}
+use Rattle.capture.proofs.Answers.{printed_by, is-refused, is-written, text-printed, line-ok, line-printed}
 use Rattle.capture.proofs.Received.{received-few, released-are}
 
 -- ---- the commands that are released
@@ -62,10 +66,10 @@ commands-fit R lane =
 
 -- ---- the text of a lane, written from what was received
 
-pub lane-told : (mode E count : ℕ) (lane s c p q text : List ℕ) (N : Numbers) → N ≡ numbers_of (row mode) → has_commands mode ≡ true → Lists (releases_of (row mode) lane) count s c p q
-    → messages_written mode E (length lane / N.octets) (take count c) text ≡ room_over (lane_messages mode E lane) text
+pub lane-told : (mode E received count : ℕ) (lane s c p q text : List ℕ) → received ≡ received_in (row mode) lane → has_commands mode ≡ true → Lists (releases_of (row mode) lane) count s c p q
+    → messages_written mode E received (take count c) text ≡ room_over (lane_messages mode E lane) text
 unfolding lane_messages messages_written has_commands
-lane-told mode E count lane s c p q text N en has l =
+lane-told mode E received count lane s c p q text en has l =
     let commands = column (λ (r : Release). r.command) (releases_of (row mode) lane) in
     let few : length commands ≤ most_of_all = omega (arith, column-length (λ (r : Release). r.command) (releases_of (row mode) lane), l.few, l.number) in
     rw (en, l.commands)
@@ -75,14 +79,16 @@ lane-told mode E count lane s c p q text N en has l =
 -- ---- a whole capture
 
 module _ (capture text : List ℕ) where
-  pub refused-messages : (r : ℕ) → r ≡ messages_refusal capture → (r ≡ 0 → ⊥) → done (record { refusal = r; count = 0 }) text ≡ told capture text
+  pub refused-messages : (why : Refusal) → number why ≡ messages_refusal capture → (answer : Result ℕ Refusal) → IsErrAnd answer (λ x. x ≡ why) → done (counted answer) text ≡ told capture text
   unfolding messages_refusal told
-  refused-messages = is-refused has_commands capture (messages_of capture) text
+  refused-messages why e answer n =
+      let passed = err_from_is_err_and answer n in
+      rw (passed.1, passed.2) (is-refused has_commands capture (messages_of capture) text (number why) e (number-above why))
 
-  pub whole-messages : (mode E : ℕ) (lane : List ℕ) → messages_refusal capture ≡ 0 → mode ≡ mode_of capture → E ≡ extent_of capture → lane ≡ lane_of capture
+  pub whole-messages : (mode E : ℕ) (lane : List ℕ) → messages_refusal capture ≡ 0 → mode_of capture ≡ mode → extent_of capture ≡ E → lane_of capture ≡ lane
       → room_over (lane_messages mode E lane) text ≡ told capture text
   unfolding messages_refusal told messages_of
-  whole-messages mode E lane z em ee el = rw (em, ee, el) (is-written has_commands capture (messages_of capture) text z)
+  whole-messages mode E lane z em ee el = rw (← em, ← ee, ← el) (is-written has_commands capture (messages_of capture) text z)
 
 -- ---- how long it can be
 
@@ -91,9 +97,10 @@ unfolding longest_messages
 longest-messages = ap (λ (n : ℕ). 21 + 17 * (3 * (n - 1))) most-is
 
 short : (capture : List ℕ) → messages_refusal capture ≡ 0 → length (messages_of capture) ≤ longest_messages
-unfolding messages_of lane_messages longest_messages
+unfolding messages_refusal messages_of lane_messages longest_messages
 short capture z =
-    let ok = accepted capture (accepted-too capture z) in
+    let a = accepted has_commands capture z in
+    let ok = receivable capture a (known_some (mode_of capture) a.mode) in
     let mode = mode_of capture in
     let R = row mode in
     let lane = lane_of capture in
@@ -101,19 +108,28 @@ short capture z =
     let n = received_in R lane in
     let few = received-few mode lane ok.short in
     messages-short mode (extent_of capture) n (column (λ (r : Release). r.command) out)
-    (omega (arith, (extent-within (extent_of capture) ok.extent).1))
+    (omega (arith, (extent-within (extent_of capture) a.extent).1))
     (omega (arith, few, most-of mode, most-is))
     (omega (arith, column-length (λ (r : Release). r.command) out, released-are R lane, few))
 
-module _ (capture text text' : List ℕ) (r : Listed) (e : done r text' ≡ told capture text) (room : longest_messages ≤ length text) where
+module _ (capture text text' : List ℕ) (room : longest_messages ≤ length text) where
   fits : messages_refusal capture ≡ 0 → length (messages_of capture) ≤ length text
   fits z = omega (arith, short capture z, room)
 
-  pub messages-printed : r.refusal ≡ 0 → (r.count ≤ length text') × (take r.count text' ≡ printed_by (messages_refusal capture) (messages_of capture))
+  pub messages-printed : (count : ℕ) → done (counted (Ok count)) text' ≡ told capture text
+      → (count ≤ length text') × (take count text' ≡ printed_by (messages_refusal capture) (messages_of capture))
   unfolding messages_refusal told
-  messages-printed = text-printed has_commands capture (messages_of capture) text text' r e fits
+  messages-printed count e = text-printed has_commands capture (messages_of capture) text text' (counted (Ok count)) e fits refl
 
-  pub refusal-printed : (r.refusal ≡ 0 → ⊥) → (line : Listed) (text'' : List ℕ) → done line text'' ≡ room_over (refused_line r.refusal) text'
-      → (line.count ≤ length text'') × (take line.count text'' ≡ printed_by (messages_refusal capture) (messages_of capture))
-  unfolding messages_refusal told
-  refusal-printed n = line-printed has_commands capture (messages_of capture) text text' r e fits n (omega (arith, room, longest-messages))
+  module _ (why : Refusal) (e : done (counted (Err why)) text' ≡ told capture text)
+      (answer : Result ℕ Refusal) (text'' : List ℕ) (put : done (counted answer) text'' ≡ room_over (refused_line (number why)) text') where
+    abbrev enough : 29 ≤ length text
+    enough = omega (arith, room, longest-messages)
+
+    pub refusal-fits : IsOk answer
+    unfolding messages_refusal told
+    refusal-fits = line-ok has_commands capture (messages_of capture) text text' (counted (Err why)) e fits (number-above why) enough answer text'' put
+
+    pub refusal-printed : (count : ℕ) → answer ≡ Ok count → (count ≤ length text'') × (take count text'' ≡ printed_by (messages_refusal capture) (messages_of capture))
+    unfolding messages_refusal told
+    refusal-printed = line-printed has_commands capture (messages_of capture) text text' (counted (Err why)) e fits (number-above why) enough answer text'' put

@@ -1,12 +1,14 @@
 -- The form of a capture: document 01, "Capture and listing"; request 2. Two sections, each after its count in four octets, highest first: the settings
 -- (mode, and E in two octets), and the lane octets. Nothing follows. Assumes nothing.
-use Rattle.std.specs.Prelude.{Bool, not, ◌&&◌, List, [], ◌∷◌, ℕ, ◌+◌, ◌-◌, ◌*◌, ◌%◌, leb, eqb, length, get_or, drop}
+use Rattle.std.specs.Prelude.{Bool, not, ◌&&◌, List, [], ◌∷◌, ℕ, ◌+◌, ◌-◌, ◌*◌, ◌%◌, leb, eqb, length, get_or, drop, Result, Ok, Err}
+use Rattle.answers.specs.declared.Refusal.{Refusal}
+use Rattle.answers.specs.Numbers.{number as number_of}
 use Rattle.bits.specs.Choice.{pick}
 use Rattle.bits.specs.Order.{bit_at, number}
 use Rattle.bits.specs.Refusals.{Line, ◌when◌, refusal_by}
 use Rattle.frame.specs.Modes.{known, row, extent_fits}
 use Rattle.frame.specs.Lane.{lane_octets}
-use Rattle.capture.specs.declared.Opened.{Opened}
+use Rattle.capture.specs.declared.form.Opened.{Opened}
 
 unfoldable pub mode_of : List ℕ → ℕ
 mode_of capture = get_or capture 4 0
@@ -45,9 +47,25 @@ refusals = refusals_by known
 unfoldable pub refusal_of : List ℕ → ℕ
 refusal_of capture = refusal_by (refusals capture)
 
--- where the lane octets stand, and how many there are
-unfoldable pub opened : List ℕ → Opened
-opened capture =
-    pick (eqb (refusal_of capture) 0)
-    (record { refusal = 0; mode = mode_of capture; e = extent_of capture; start = 11; count = length (lane_of capture) })
-    (record { refusal = refusal_of capture; mode = 0; e = 0; start = 0; count = 0 })
+-- a refusal, or 0 with the mode, E, and the lane octets
+pub record Sections : Type 0 where
+  pub refusal : ℕ
+  pub mode : ℕ
+  pub e : ℕ
+  pub lane : List ℕ
+
+abbrev pub refused_by : ℕ → Sections
+refused_by refusal = record { refusal = refusal; mode = 0; e = 0; lane = [] }
+
+-- an answer
+abbrev pub opened_as : Result Opened Refusal → Sections
+opened_as (Ok o) = record { refusal = 0; mode = o.mode; e = o.e; lane = o.lane.now }
+opened_as (Err why) = refused_by (number_of why)
+
+-- by the modes that are taken
+unfoldable pub opened_by : (ℕ → Bool) → List ℕ → Sections
+opened_by taken capture =
+    let refusal = refusal_by (refusals_by taken capture) in
+    pick (eqb refusal 0)
+    (record { refusal = 0; mode = mode_of capture; e = extent_of capture; lane = lane_of capture })
+    (refused_by refusal)

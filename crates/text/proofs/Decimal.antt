@@ -1,6 +1,6 @@
 -- Decimal numbers: their last digit, how many digits they have, and how long the lines made of them are. Document 01, "Capture and
 -- listing". Assumes nothing.
-use mathlib.Core.Path.{◌≡◌, sym, ap, ◌∙◌}
+use mathlib.Core.Path.{◌≡◌, ap}
 use mathlib.Core.Bool.{Bool, true, false}
 use mathlib.Core.List.{List, [], ◌∷◌, ◌++◌}
 use Prim.Native.Nat.{ℕ, zero, suc, ◌+◌, ◌*◌, ◌/◌, ◌%◌, ◌^◌, ◌≤◌, ◌<◌}
@@ -63,12 +63,6 @@ digits-below (suc d) (suc most) n h =
 pub decimal-below : (d n : ℕ) → n < 10 ^ suc d → length (decimal n) ≤ suc d
 unfolding decimal
 decimal-below d n h = digits-below d 20 n h
-
-pub width_one : (n : ℕ) → n < 10 → 1 ≡ length (decimal n)
-width_one n h = sym (ap length (one-digit n h))
-
-pub width-more : (n : ℕ) → 10 ≤ n → n < 4294967296 → length (decimal (n / 10)) + 1 ≡ length (decimal n)
-width-more n h k = sym (ap length (last-digit n h k) ∙ length-append (decimal (n / 10)) ((48 + n % 10) ∷ []))
 
 -- ---- fields and lines
 

@@ -1,26 +1,27 @@
 -- The lines of all events, read by read: request 6. Assumes nothing.
-use mathlib.Core.Path.{◌≡◌, refl, sym, ap, subst, ◌∙◌}
+use mathlib.Core.Path.{◌≡◌, refl, sym, ap, ap₂, subst, ◌∙◌}
 use mathlib.Core.List.{List, [], ◌++◌, append_assoc, append-nil}
-use Prim.Native.Nat.{ℕ, zero, suc, ◌+◌, ◌-◌, ◌*◌, ◌/◌, ◌≤◌, ◌<◌}
+use Prim.Native.Nat.{ℕ, zero, suc, ◌+◌, ◌-◌, ◌*◌, ◌/◌, ◌^◌, ◌≤◌, ◌<◌}
 use native.Mathlib.Nat.{mul-le-mul}
 use native.Mathlib.Decide.{dec_lt}
 use native.Mathlib.Omega.{arith}
 use lib.ListN.{length, length-append}
+use Rattle.std.specs.Prelude.{Option, Some, None, Result, Ok, Err, IsOk}
+use Rattle.answers.specs.declared.Refusal.{Refusal}
 use Rattle.frame.specs.Modes.{row, most_of_all}
 use Rattle.commands.specs.declared.events.Event.{Event}
 use Rattle.commands.specs.declared.events.Event.TheVariants as event
-use Rattle.commands.specs.declared.events.Message.{Message}
 use Rattle.commands.specs.declared.events.Read.{Read}
 use Rattle.commands.specs.Writing.{channel_words}
-use Rattle.commands.specs.Reading.{refusal_of, event_in, reading}
+use Rattle.commands.specs.Reading.{refusal_of, event_in, Reading, read_as, reading}
 use Rattle.commands.proofs.Found.{from_past}
-use Rattle.commands.proofs.Progress.{Told, relied, goes_on}
-use Rattle.commands.proofs.Answers.{list-ready, list_read}
+use Rattle.commands.proofs.Progress.{Told, Relied, relied, goes_on}
+use Rattle.answers.proofs.Numbers.{number-above}
+use Rattle.commands.proofs.Answers.{read-refusal, list-ready, list_read}
 use Rattle.text.specs.Text.{head_line}
 use Rattle.text.specs.Messages.{event_line, line_of, event_lines, messages_text}
 use Rattle.text.specs.inner.Wrote.{Wrote}
-use Rattle.text.specs.inner.Tellable.{Tellable}
-use Rattle.text.proofs.Wrote.{wrote_none, wrote_then, wrote-is, wrote-length}
+use Rattle.text.proofs.Wrote.{wrote_none, wrote_then, wrote-is}
 
 -- ---- as many reads as there are words left are enough
 
@@ -74,21 +75,20 @@ module _ (n : ℕ) (commands : List ℕ) where
         ap (event_lines n commands from) {x = all - from} {y = suc left} (omega arith)
         ∙ ap (λ (l : List ℕ). line_of n commands r ++ l) (ap (event_lines n commands r.next) e ∙ enough (left - (all - r.next)) r.next)
 
--- ---- a read, and what may be relied on
+    -- at a word or at the list's end, the line of what is read there comes first
+    lines_at : (from : ℕ) → from ≤ all → lines_from from ≡ line_of n commands (event_in n commands from) ++ lines_from (event_in n commands from).next
+    lines_at from h = by (dec_lt from all)
+      where
+        by : Dec (from < all) → lines_from from ≡ line_of n commands (event_in n commands from) ++ lines_from (event_in n commands from).next
+        by (yes low) = lines-on from low
+        by (no over) = ap (λ (r : Read). line_of n commands r ++ lines_from r.next) (from_past n commands from some (omega arith))
 
--- the line of a read can be written, and the lines behind it are those from where it goes on
-pub record Step (n : ℕ) (commands : List ℕ) (from : ℕ) (r : Read) : Type 0 where
-  pub begins : r.begin ≤ n * length commands
-  pub tellable : Tellable r.event r.message
-  pub goes : from < r.next
-  pub stays : r.next ≤ n * length commands
-  pub lines : lines_from n commands from ≡ line_of n commands r ++ lines_from n commands r.next
+-- ---- a list that is read
 
-told-tellable : (all b next : ℕ) (e : Event) (m : Message) → Told all b next e m → Tellable e m
-told-tellable all b next event.Nothing m t = tt
-told-tellable all b next event.Message m t = (t.0, t.1)
-told-tellable all b next (event.Cut taken) m t = t.0
-told-tellable all b next (event.Undefined code) m t = tt
+told-goes : (all b next : ℕ) (e : Event) → Told all b next (Some e) → b < next
+told-goes _ b next (event.Message m) t = omega (arith, t.4)
+told-goes _ b next (event.Cut taken) t = omega (arith, t.1)
+told-goes _ b next (event.Undefined code) t = omega (arith, t.1)
 
 module _ (mode : ℕ) (commands : List ℕ) (accepted : refusal_of mode commands ≡ 0) (n : ℕ) (words : n ≡ channel_words mode) where
   pub words-some : (1 ≤ n) × (n ≤ 3)
@@ -101,93 +101,64 @@ module _ (mode : ℕ) (commands : List ℕ) (accepted : refusal_of mode commands
   pub words-counted : length commands ≤ most_of_all → n * length commands ≤ 3 * most_of_all
   words-counted h = mul-le-mul words-some.1 h
 
-  pub step : (from : ℕ) → from < n * length commands → (r : Read) → r ≡ reading mode commands from → Step n commands from r
-  step from h r e =
-      let some = words-some.0 in
-      let trust = relied n commands some from (omega arith) in
-      let own = event_in n commands from in
-      let is = e ∙ sym (list_read mode commands from (refusal_of mode commands) refl accepted n words) in
-      subst (Step n commands from) (sym is)
-      (record {
-        begins = trust.begins;
-        tellable = told-tellable (n * length commands) own.begin own.next own.event own.message trust.told;
-        goes = goes_on n commands some from h;
-        stays = trust.stays;
-        lines = lines-on n commands some from h;
-      })
+  -- it is read at every word
+  pub read-ok : (from : ℕ) (answer : Result Read Refusal) → read_as from answer ≡ reading mode commands from → IsOk answer
+  read-ok from (Ok r) e = refl
+  read-ok from (Err why) e = absurd (number-above why (ap (λ (x : Reading). x.refusal) e ∙ read-refusal mode commands from ∙ accepted))
+
+  pub read-is : (from : ℕ) (answer : Result Read Refusal) (r : Read) → read_as from answer ≡ reading mode commands from → answer ≡ Ok r → event_in n commands from ≡ r
+  read-is from answer r e is =
+      ap (λ (x : Reading). record { event = x.event; begin = x.begin; next = x.next })
+      (list_read mode commands from (refusal_of mode commands) refl accepted n words ∙ sym e ∙ ap (read_as from) is)
 
 -- ---- read by read
 
 module _ (n : ℕ) (commands : List ℕ) where
-  -- the lines before those from a word on are written
-  pub record Begun (start : ℕ) (old : List ℕ) (from at : ℕ) (text : List ℕ) : Type 0 where
+  -- the lines before that of a read are written, and the read may be relied on
+  pub record Begun (start : ℕ) (old : List ℕ) (r : Read) (at : ℕ) (text : List ℕ) : Type 0 where
     pub so_far : List ℕ
     pub wrote : Wrote so_far start old at text
-    pub rest : so_far ++ lines_from n commands from ≡ lines_from n commands 0
+    pub rest : so_far ++ (line_of n commands r ++ lines_from n commands r.next) ≡ lines_from n commands 0
+    pub trust : Relied (n * length commands) 0 r
 
-  pub begun-none : (start : ℕ) (old : List ℕ) → start ≤ length old → Begun start old 0 start old
-  begun-none start old h = record { so_far = []; wrote = wrote_none start old h; rest = refl }
+  pub begun-first : {start : ℕ} {old : List ℕ} → 1 ≤ n → start < 2 ^ 64 → length old < 2 ^ 64 - 1 → (r : Read) → event_in n commands 0 ≡ r → Begun start old r start old
+  begun-first {start} {old} some h room r is = subst (λ (s : Read). Begun start old s start old) is (record {
+    so_far = [];
+    wrote = wrote_none start old h room;
+    rest = sym (lines_at n commands some 0 (omega arith));
+    trust = relied n commands some 0 (omega arith);
+  })
 
-  module _ {start from at : ℕ} {old mid : List ℕ} (b : Begun start old from at mid) where
-    pub begun_all : 1 ≤ n → n * length commands ≤ from → Wrote (event_lines n commands 0 (n * length commands)) start old at mid
-    begun_all some h =
-        wrote-is
-        (sym (append-nil b.so_far) ∙ ap (λ (l : List ℕ). b.so_far ++ l) (sym (lines_end n commands some from h)) ∙ b.rest ∙ from_start n commands) b.wrote
+  module _ {start at : ℕ} {old mid : List ℕ} (r : Read) (b : Begun start old r at mid) where
+    pub begun_all : 1 ≤ n → r.event ≡ None → Wrote (event_lines n commands 0 (n * length commands)) start old at mid
+    begun_all some none =
+        let t = subst (Told (n * length commands) r.begin r.next) none b.trust.told in
+        let left : line_of n commands r ++ lines_from n commands r.next ≡ []
+        = ap (λ (v : Option Event). event_line (r.begin / n) v ++ lines_from n commands r.next) none ∙ lines_end n commands some r.next (omega (arith, t.0, t.1)) in
+        wrote-is (sym (append-nil b.so_far) ∙ ap (λ (l : List ℕ). b.so_far ++ l) (sym left) ∙ b.rest ∙ from_start n commands) b.wrote
 
-    module _ (r : Read) (s : Step n commands from r) (k : ℕ) (multiblock : k ≡ r.begin / n) where
-      own_line : event_line k r.event r.message ≡ line_of n commands r
-      own_line = ap (λ (x : ℕ). event_line x r.event r.message) multiblock
+    module _ (e : Event) (some-event : r.event ≡ Some e) where
+      told : Told (n * length commands) r.begin r.next (Some e)
+      told = subst (Told (n * length commands) r.begin r.next) some-event b.trust.told
 
-      pub begun-room : start + length (event_lines n commands 0 (n * length commands)) ≤ length old → at + length (event_line k r.event r.message) ≤ length mid
-      begun-room room =
-          omega (
-            arith,
-            ap length own_line,
-            ap length (from_start n commands),
-            ap length b.rest,
-            length-append b.so_far (lines_from n commands from),
-            ap length s.lines,
-            length-append (line_of n commands r) (lines_from n commands r.next),
-            b.wrote.place,
-            wrote-length b.wrote,
-          )
+      pub goes_further : 1 ≤ n → (s : Read) → event_in n commands r.next ≡ s → (r.begin < s.begin) × (s.begin ≤ n * length commands)
+      goes_further some s is =
+          let trust = subst (Relied (n * length commands) r.next) is (relied n commands some r.next b.trust.stays) in
+          (omega (arith, told-goes (n * length commands) r.begin r.next e told, trust.behind), trust.begins)
 
-      pub begun_more : {end : ℕ} {text : List ℕ} → Wrote (event_line k r.event r.message) at mid end text → Begun start old r.next end text
-      begun_more w = record {
+      pub begun_more : {k end : ℕ} {text : List ℕ} → 1 ≤ n → k ≡ r.begin / n → Wrote (event_line k (Some e)) at mid end text → (s : Read) → event_in n commands r.next ≡ s → Begun start old s end text
+      begun_more {end = end} {text = text} some multiblock w s is = subst (λ (x : Read). Begun start old x end text) is (record {
         so_far = b.so_far ++ line_of n commands r;
-        wrote = wrote_then b.wrote (wrote-is own_line w);
+        wrote = wrote_then b.wrote (wrote-is (ap₂ event_line multiblock (sym some-event)) w);
         rest =
-            append_assoc b.so_far (line_of n commands r) (lines_from n commands r.next)
-            ∙ ap (λ (l : List ℕ). b.so_far ++ l) (sym s.lines)
+            append_assoc b.so_far (line_of n commands r) _
+            ∙ ap (λ (l : List ℕ). b.so_far ++ (line_of n commands r ++ l)) (sym (lines_at n commands some r.next b.trust.stays))
             ∙ b.rest;
-      }
-
-  -- and their octets are counted
-  pub record Counted (from total : ℕ) : Type 0 where
-    pub counts : total + length (lines_from n commands from) ≡ length (lines_from n commands 0)
-    pub few : total ≤ 199 * from
-
-  pub counted_none : Counted 0 0
-  counted_none = record { counts = omega arith; few = omega arith }
-
-  module _ {from total : ℕ} (so_far : Counted from total) where
-    pub counted-more : (r : Read) → Step n commands from r → (k : ℕ) → k ≡ r.begin / n
-        → (width : ℕ) → width ≡ length (event_line k r.event r.message) → width ≤ 199 → Counted r.next (total + width)
-    counted-more r s k multiblock width e h = record {
-      counts =
-          omega (
-            arith,
-            e,
-            ap (λ (x : ℕ). length (event_line x r.event r.message)) multiblock,
-            so_far.counts,
-            ap length s.lines,
-            length-append (line_of n commands r) (lines_from n commands r.next),
-          );
-      few = omega (arith, h, so_far.few, s.goes);
-    }
-
-    pub counted-all : 1 ≤ n → n * length commands ≤ from → total ≡ length (event_lines n commands 0 (n * length commands))
-    counted-all some h = omega (arith, so_far.counts, ap length (lines_end n commands some from h), ap length (from_start n commands))
+        trust = still (relied n commands some r.next b.trust.stays);
+      })
+        where
+          still : {all from : ℕ} {s : Read} → Relied all from s → Relied all 0 s
+          still t = record { behind = omega arith; begins = t.begins; stays = t.stays; told = t.told }
 
 -- ---- the whole text
 

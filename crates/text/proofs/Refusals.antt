@@ -2,7 +2,7 @@
 use mathlib.Core.Path.{◌≡◌, refl, sym, ap, ◌∙◌}
 use mathlib.Core.Bool.{Bool, true, false, not, ◌&&◌}
 use mathlib.Core.List.{List, [], ◌∷◌}
-use Prim.Native.Nat.{ℕ, ◌+◌, ◌≤◌, ◌<◌}
+use Prim.Native.Nat.{ℕ, ◌≤◌, ◌<◌}
 use native.Mathlib.Omega.{arith}
 use borrow.Author.Tests.{not-false, le-ltb, lt-ltb, eq-eqb, ne_eqb, eqb-true}
 use lib.Dec.{ltb, eqb}
@@ -41,15 +41,15 @@ pub answered : {d : Done} (refusal : ℕ) (lines : List Line) (new text : List �
 answered refusal lines new text e f = e ∙ ap (λ (k : ℕ). answer_of k new text) f
 
 -- what an answer says: the number itself, and a count of octets that stand in the text, which keeps its length
-pub record Counted (refusal : ℕ) (text : List ℕ) (d : Done) : Type 0 where
+pub record Stands (refusal : ℕ) (text : List ℕ) (d : Done) : Type 0 where
   pub number : d.answer.refusal ≡ refusal
   pub within : d.answer.count ≤ length text
   pub long : length d.text ≡ length text
 
-pub counted : (refusal : ℕ) (new text : List ℕ) → (refusal ≡ 0 → length new ≤ length text) → Counted refusal text (answer_of refusal new text)
+pub stands : (refusal : ℕ) (new text : List ℕ) → (refusal ≡ 0 → length new ≤ length text) → Stands refusal text (answer_of refusal new text)
 unfolding answer_of
-counted refusal new text room =
-    pick-both (Counted refusal text) (eqb refusal 0) _ _
+stands refusal new text room =
+    pick-both (Stands refusal text) (eqb refusal 0) _ _
     (λ e. let z = eqb-true refusal 0 e in record { number = sym z; within = room z; long = length-laid new text (room z) })
     (λ _. record { number = refl; within = omega arith; long = refl })
 
@@ -65,11 +65,16 @@ with-room new text h =
     answered 0 (7 when ltb (length text) (length new) ∷ []) new text (accepted new text)
     (none_left ∙ passed 7 (ltb (length text) (length new)) [] (le-ltb (length text) (length new) h))
 
-pub all-written : {new old text : List ℕ} {count : ℕ} → Wrote new 0 old count text → done (record { refusal = 0; count = count }) text ≡ room_over new old
-all-written {new} {old} {text} {count} w =
-    let fits : 0 + length new ≤ length old = w.fits in
-    let t = wrote-laid w in
-    rw (t.0, t.1) (with-room new old (omega arith))
+-- measured over no text, and then refused or written
+module _ {new none : List ℕ} {count : ℕ} (measured : Wrote new 0 [] count none) where
+  pub too_long : {text : List ℕ} → length text < count → done (record { refusal = 7; count = 0 }) text ≡ room_over new text
+  too_long {text} h = no_room new text (omega (arith, measured.place))
+
+  pub all-written : {old text : List ℕ} {end : ℕ} → count ≤ length old → Wrote new 0 old end text → done (record { refusal = 0; count = end }) text ≡ room_over new old
+  all-written {old} h w =
+      let enough : length new ≤ length old = omega (arith, measured.place, w.room) in
+      let t = wrote-laid w enough in
+      rw (t.0, t.1) (with-room new old enough)
 
 -- ---- by the lists
 

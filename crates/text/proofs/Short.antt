@@ -6,13 +6,13 @@ use native.Mathlib.Nat.{mul_comm, mul-le-mul, div-le_of_le-mul}
 use native.Mathlib.Omega.{arith}
 use lib.Dec.{lit≤}
 use lib.ListN.{length, get_or, take, length-append}
+use Rattle.std.specs.Prelude.{Option, Some, None}
 use Rattle.frame.specs.declared.modes.Row.{Row}
 use Rattle.frame.specs.Modes.{row, most_of_all}
 use Rattle.frame.proofs.Sizes.{width-80}
 use Rattle.frame.proofs.Rows.{of-each, few, most-is}
 use Rattle.commands.specs.declared.events.Event.{Event}
 use Rattle.commands.specs.declared.events.Event.TheVariants as event
-use Rattle.commands.specs.declared.events.Message.{Message}
 use Rattle.commands.specs.Writing.{channel_words}
 use Rattle.commands.specs.Reading.{event_in}
 use Rattle.commands.proofs.Channel.{words-few}
@@ -95,9 +95,9 @@ module _ (words : List ℕ) (small : (i : ℕ) → get_or words i 0 < 32) where
       )
 
 -- the line of an event has at most 17 octets for each word that the event takes
-event-short : (all b next k : ℕ) (e : Event) (m : Message) → k < 1000 → Told all b next e m → (b ≤ next) × (length (event_line k e m) ≤ 17 * (next - b))
-event-short all b next k event.Nothing m h t = (omega (arith, t.1), omega arith)
-event-short all b next k event.Message m h t =
+event-short : (all b next k : ℕ) (e : Option Event) → k < 1000 → Told all b next e → (b ≤ next) × (length (event_line k e) ≤ 17 * (next - b))
+event-short all b next k None h t = (omega (arith, t.1), omega arith)
+event-short all b next k (Some (event.Message m)) h t =
     let within : m.count ≤ length m.words = omega (arith, t.0, t.1) in (
       omega (arith, t.4),
       omega (
@@ -109,11 +109,11 @@ event-short all b next k event.Message m h t =
         t.4,
       ),
     )
-event-short all b next k (event.Cut taken) m h t = (
+event-short all b next k (Some (event.Cut taken)) h t = (
   omega (arith, t.1),
   omega (arith, told-length k cut_name taken [], decimal-below 2 k h, decimal-below 0 taken (omega (arith, t.0)), ap length no_words, t.1),
 )
-event-short all b next k (event.Undefined code) m h t = (
+event-short all b next k (Some (event.Undefined code)) h t = (
   omega (arith, t.1),
   omega (arith, told-length k undefined_name code [], decimal-below 2 k h, decimal-below 1 code (omega (arith, t.0)), ap length no_words, t.1),
 )
@@ -128,7 +128,7 @@ module _ (n : ℕ) (commands : List ℕ) (number : length commands < 1000) where
   events-short some (suc reads) from h =
       let r = event_in n commands from in
       let trust = relied n commands some from h in
-      let own = event-short (n * length commands) r.begin r.next (r.begin / n) r.event r.message (omega (arith, multiblock-few n commands r.begin trust.begins)) trust.told in
+      let own = event-short (n * length commands) r.begin r.next (r.begin / n) r.event (omega (arith, multiblock-few n commands r.begin trust.begins)) trust.told in
       omega (
         arith,
         length-append (line_of n commands r) (event_lines n commands r.next reads),

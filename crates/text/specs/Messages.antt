@@ -1,12 +1,11 @@
 -- The messages of a list of commands as octets: request 6. A line for each event: the multiblock in which it began, what it is, and its numbers.
 -- Assumes nothing.
-use Rattle.std.specs.Prelude.{not, List, [], ◌∷◌, ◌++◌, ℕ, zero, suc, ◌*◌, ◌/◌, ltb, eqb, length, take}
+use Rattle.std.specs.Prelude.{not, List, [], ◌∷◌, ◌++◌, ℕ, zero, suc, ◌*◌, ◌/◌, ltb, eqb, length, take, Option, Some, None}
 use Rattle.bits.specs.Bounds.{all_below}
 use Rattle.bits.specs.Refusals.{Line, ◌when◌, refusal_by}
 use Rattle.frame.specs.Modes.{row, flagged_bound, most_of_all}
 use Rattle.commands.specs.declared.events.Event.{Event}
 use Rattle.commands.specs.declared.events.Event.TheVariants as event
-use Rattle.commands.specs.declared.events.Message.{Message}
 use Rattle.commands.specs.declared.events.Read.{Read}
 use Rattle.commands.specs.Writing.{channel_words}
 use Rattle.commands.specs.Reading.{event_in}
@@ -33,15 +32,15 @@ unfoldable pub told_line : ℕ → List ℕ → ℕ → List ℕ → List ℕ
 told_line k name number words = spaced k ++ (name ++ (decimal number ++ (words_text words ++ (10 ∷ []))))
 
 -- the line of an event that began in multiblock k; the list's end has none
-abbrev pub event_line : ℕ → Event → Message → List ℕ
-event_line k event.Nothing m = []
-event_line k event.Message m = told_line k message_name m.code (take m.count m.words)
-event_line k (event.Cut words) m = told_line k cut_name words []
-event_line k (event.Undefined code) m = told_line k undefined_name code []
+abbrev pub event_line : ℕ → Option Event → List ℕ
+event_line k None = []
+event_line k (Some (event.Message m)) = told_line k message_name m.code (take m.count m.words)
+event_line k (Some (event.Cut words)) = told_line k cut_name words []
+event_line k (Some (event.Undefined code)) = told_line k undefined_name code []
 
 module _ (n : ℕ) (commands : List ℕ) where
   abbrev pub line_of : Read → List ℕ
-  line_of r = event_line (r.begin / n) r.event r.message
+  line_of r = event_line (r.begin / n) r.event
 
   -- the lines of so many reads, the first from a word on, and each from where the one before said
   unfoldable pub event_lines : ℕ → ℕ → List ℕ

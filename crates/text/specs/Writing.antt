@@ -1,20 +1,20 @@
 -- What a call that writes a listing answers, and what the text holds after it: document 01, "Capture and listing" and "Numbers of refusal".
 -- Assumes nothing.
 use Rattle.std.specs.Prelude.{not, ◌&&◌, List, [], ◌∷◌, ℕ, ltb, eqb, length}
+use Rattle.answers.specs.Numbers.{Counted}
 use Rattle.bits.specs.Choice.{pick}
 use Rattle.bits.specs.Order.{laid}
 use Rattle.bits.specs.Refusals.{Line, ◌when◌, refusal_by}
 use Rattle.frame.specs.declared.modes.Row.{Row}
 use Rattle.frame.specs.Modes.{most_of_all}
-use Rattle.text.specs.declared.Listed.{Listed}
 use Rattle.text.specs.Text.{text_of}
 
 -- an answer, and the text at exit
 pub record Done : Type 0 where
-  pub answer : Listed
+  pub answer : Counted
   pub text : List ℕ
 
-abbrev pub done : Listed → List ℕ → Done
+abbrev pub done : Counted → List ℕ → Done
 done answer text = record { answer = answer; text = text }
 
 -- refused, with the text as it was; or laid over its start

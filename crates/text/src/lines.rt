@@ -1,70 +1,58 @@
 // The lines of a listing, and the whole of its text: document 01, "Capture and listing". It is written where there is room for all of it.
-ghost use Rattle.std.specs.Prelude.{◌≡◌, ◌+◌, ◌*◌, ◌≤◌, length};
+ghost use Rattle.std.specs.Prelude.{◌≡◌, ◌≤◌, length};
+ghost use Rattle.answers.specs.Numbers.{counted};
 ghost use Rattle.frame.specs.Modes.{most_of_all};
 ghost use Rattle.text.specs.Text.{lines_of, text_of};
 ghost use Rattle.text.specs.Writing.{done, room_over};
 ghost use Rattle.text.specs.inner.Wrote.{Wrote};
 
-use crate::{Listed, fields};
+use crate::fields;
+use answers::Refusal;
 use frame::modes::Row;
 
-fn lines_width(released: usize, statuses: &[u8], places: &[u16], patterns: &[u16]) -> usize
-    requires { (released ≤ most_of_all) × (released ≤ length statuses.now) × (released ≤ length places.now) × (released ≤ length patterns.now) }
-    ensures { (result ≡ length (lines_of released statuses.now places.now patterns.now)) × (result ≤ 84 * most_of_all) }
-{
-    let mut total: usize = 0;
-    let mut k = 0;
-    while k < released {
-        total += fields::line_width(k as u32, statuses[k], places[k], patterns[k]);
-        k += 1;
-    }
-    total
+// What was released: for each multiblock a status, a place and a pattern.
+#[derive(Clone, Copy)]
+pub(crate) struct Releases<'a> {
+    pub statuses: &'a [u8],
+    pub places: &'a [u16],
+    pub patterns: &'a [u16],
+    ghost few: { length statuses.now ≤ most_of_all },
+    ghost placed: { length places.now ≡ length statuses.now },
+    ghost patterned: { length patterns.now ≡ length statuses.now },
 }
 
-fn put_lines(
-    text: &mut [u8],
-    start: usize,
-    released: usize,
-    statuses: &[u8],
-    places: &[u16],
-    patterns: &[u16],
-) -> usize
-    requires released_le_most_of_all { (released ≤ most_of_all) × (released ≤ length statuses.now) × (released ≤ length places.now) × (released ≤ length patterns.now) }
-    requires patterns_in_bounds { start + length (lines_of released statuses.now places.now patterns.now) ≤ length text.old }
-    ensures { Wrote (lines_of released statuses.now places.now patterns.now) start text.old result text.new }
-{
-    let mut at = start;
-    let mut k = 0;
-    while k < released {
-        at = fields::put_line(text, at, k as u32, statuses[k], places[k], patterns[k]);
-        k += 1;
+impl Releases<'_> {
+    fn put_lines(&self, text: &mut [u8], start: usize) -> usize
+        ensures { Wrote (lines_of (length self.now.statuses.now) self.now.statuses.now self.now.places.now self.now.patterns.now) start text.old result text.new }
+    {
+        let mut at = start;
+        let released = self.statuses.iter().zip(self.places).zip(self.patterns);
+        for (k, ((status, place), pattern)) in released.enumerate() {
+            at = fields::put_line(text, at, k as u32, *status, *place, *pattern);
+        }
+        at
     }
-    at
-}
 
-// The header line and a line for each status, place and pattern, or 7 where there is no room.
-pub(crate) fn put_text(
-    text: &mut [u8],
-    row: Row,
-    e: u32,
-    received: u32,
-    statuses: &[u8],
-    places: &[u16],
-    patterns: &[u16],
-) -> Listed
-    requires { (length statuses.now ≤ most_of_all) × (length places.now ≡ length statuses.now) × (length patterns.now ≡ length statuses.now) }
-    ensures { done result text.new ≡ room_over (text_of row e received statuses.now places.now patterns.now) text.old }
-{
-    let released = statuses.len();
-    let head = fields::head_width(row, e, received, released as u32);
-    let lines = lines_width(released, statuses, places, patterns);
-    if head + lines > text.len() {
-        return Listed {
-            refusal: 7,
-            count: 0,
-        };
+    fn put_all(&self, text: &mut [u8], row: Row, e: u32, received: u32) -> usize
+        ensures { Wrote (text_of row e received self.now.statuses.now self.now.places.now self.now.patterns.now) 0 text.old result text.new }
+    {
+        let start = fields::put_head(text, row, e, received, self.statuses.len() as u32);
+        self.put_lines(text, start)
     }
-    let start = fields::put_head(text, row, e, received, released as u32);
-    let count = put_lines(text, start, released, statuses, places, patterns);
-    Listed { refusal: 0, count }
+
+    // The header line and a line for each multiblock. They are measured first: a text that is too short stays as it was.
+    pub(crate) fn put(
+        &self,
+        text: &mut [u8],
+        row: Row,
+        e: u32,
+        received: u32,
+    ) -> Result<usize, Refusal>
+        ensures { done (counted result) text.new ≡ room_over (text_of row e received self.now.statuses.now self.now.places.now self.now.patterns.now) text.old }
+    {
+        if self.put_all(&mut [], row, e, received) > text.len() {
+            return Err(Refusal::Room);
+        }
+        Ok(self.put_all(text, row, e, received))
+    }
 }

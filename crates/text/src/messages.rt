@@ -1,5 +1,6 @@
 // The lines of messages, and the whole of their text: request 6. It is written where there is room for all of it.
-ghost use Rattle.std.specs.Prelude.{◌≡◌, ◌+◌, ◌*◌, ◌/◌, ◌≤◌, length};
+ghost use Rattle.std.specs.Prelude.{◌≡◌, ◌*◌, ◌/◌, ◌≤◌, length};
+ghost use Rattle.answers.specs.Numbers.{counted};
 ghost use Rattle.frame.specs.Modes.{most_of_all};
 ghost use Rattle.commands.specs.Writing.{channel_words};
 ghost use Rattle.commands.specs.Reading.{refusal_of};
@@ -8,92 +9,62 @@ ghost use Rattle.text.specs.Writing.{done, room_over};
 ghost use Rattle.text.specs.inner.Wrote.{Wrote};
 ghost use Rattle.text.specs.inner.Tellable.{Tellable};
 
-use crate::{Listed, fields};
-use commands::events::{Event, Message};
+use crate::fields;
+use answers::Refusal;
+use commands::events::Event;
 use frame::modes;
 
-fn words_width(words: &[u8]) -> usize
-    requires { length words.now ≤ 7 }
-    ensures { (result ≡ length (words_text words.now)) × (result ≤ 147) }
-{
-    let mut total: usize = 0;
-    let mut i = 0;
-    while i < words.len() {
-        total += 1 + fields::width(words[i] as u32);
-        i += 1;
-    }
-    total
+// A list of commands that is not refused.
+#[derive(Clone, Copy)]
+pub(crate) struct Commands<'a> {
+    pub mode: u8,
+    pub commands: &'a [u32],
+    ghost readable: { refusal_of mode commands.now ≡ 0 },
+    ghost few: { length commands.now ≤ most_of_all },
 }
 
 // Each word after a space.
 fn put_words(text: &mut [u8], at: usize, words: &[u8]) -> usize
-    requires { at + length (words_text words.now) ≤ length text.old }
     ensures { Wrote (words_text words.now) at text.old result text.new }
 {
     let mut next = at;
-    let mut i = 0;
-    while i < words.len() {
-        let word = fields::put_octet(text, next, b' ');
-        next = fields::put_decimal(text, word, words[i] as u32);
-        i += 1;
+    for word in words {
+        next = fields::put(text, next, b" ");
+        next = fields::put_decimal(text, next, u32::from(*word));
     }
     next
 }
 
-fn told_width(k: u32, name: &[u8], number: u32, words: &[u8]) -> usize
-    requires { length words.now ≤ 7 }
-    ensures { (result ≡ length (told_line k name.now number words.now)) × (result ≤ length name.now + 189) }
-{
-    name.len() + fields::width(k) + fields::width(number) + words_width(words) + 2
-}
-
 // A multiblock, a name, a number and words.
 fn put_told(text: &mut [u8], at: usize, k: u32, name: &[u8], number: u32, words: &[u8]) -> usize
-    requires { at + length (told_line k name.now number words.now) ≤ length text.old }
     ensures { Wrote (told_line k name.now number words.now) at text.old result text.new }
 {
     let first = fields::put_field(text, at, k, b' ');
-    let second = fields::put_letters(text, first, name);
+    let second = fields::put(text, first, name);
     let third = fields::put_decimal(text, second, number);
     let fourth = put_words(text, third, words);
-    fields::put_octet(text, fourth, b'\n')
-}
-
-fn event_width(k: u32, event: Event, message: Message) -> usize
-    requires { Tellable event message }
-    ensures { (result ≡ length (event_line k event message)) × (result ≤ 199) }
-{
-    let words = message.words;
-    let count = message.count;
-    match event {
-        Event::Nothing => 0,
-        Event::Message => told_width(k, b"message ", message.code as u32, &words[..count]),
-        Event::Cut(taken) => told_width(k, b"cut ", taken as u32, b""),
-        Event::Undefined(code) => told_width(k, b"undefined ", code as u32, b""),
-    }
+    fields::put(text, fourth, b"\n")
 }
 
 // The line of an event that began in multiblock `k`.
-fn put_event(text: &mut [u8], at: usize, k: u32, event: Event, message: Message) -> usize
-    requires { Tellable event message × (at + length (event_line k event message) ≤ length text.old) }
-    ensures { Wrote (event_line k event message) at text.old result text.new }
+fn put_event(text: &mut [u8], at: usize, k: u32, event: Event) -> usize
+    requires { Tellable event }
+    ensures { Wrote (event_line k (Some event)) at text.old result text.new }
 {
-    let words = message.words;
-    let count = message.count;
     match event {
-        Event::Nothing => at,
-        Event::Message => {
+        Event::Message(message) => {
+            let words = message.words;
             put_told(
                 text,
                 at,
                 k,
                 b"message ",
-                message.code as u32,
-                &words[..count],
+                u32::from(message.code),
+                &words[..message.count],
             )
         }
         Event::Cut(taken) => put_told(text, at, k, b"cut ", taken as u32, b""),
-        Event::Undefined(code) => put_told(text, at, k, b"undefined ", code as u32, b""),
+        Event::Undefined(code) => put_told(text, at, k, b"undefined ", u32::from(code), b""),
     }
 }
 
@@ -105,63 +76,36 @@ fn multiblock_of(n: usize, word: usize) -> u32
     (word / n) as u32
 }
 
-fn events_width(mode: u8, commands: &[u32]) -> usize
-    requires { (refusal_of mode commands.now ≡ 0) × (length commands.now ≤ most_of_all) }
-    ensures { (result ≡ length (event_lines (channel_words mode) commands.now 0 (channel_words mode * length commands.now))) × (result ≤ 199 * (3 * most_of_all)) }
-{
-    let n = commands::channel_words(mode);
-    let all = n * commands.len();
-    let mut total: usize = 0;
-    let mut from = 0;
-    while from < all {
-        let read = commands::read(mode, commands, from);
-        let event = read.event;
-        total += event_width(multiblock_of(n, read.begin), event, read.message);
-        from = read.next;
+impl Commands<'_> {
+    // The lines of all events, read one after the other.
+    fn put_events(&self, text: &mut [u8], start: usize) -> usize
+        ensures { let n = channel_words self.now.mode in Wrote (event_lines n self.now.commands.now 0 (n * length self.now.commands.now)) start text.old result text.new }
+    {
+        let n = commands::channel_words(self.mode);
+        let mut at = start;
+        let mut read = commands::read(self.mode, self.commands, 0).unwrap();
+        while let Some(event) = read.event {
+            at = put_event(text, at, multiblock_of(n, read.begin), event);
+            read = commands::read(self.mode, self.commands, read.next).unwrap();
+        }
+        at
     }
-    total
-}
 
-// The lines of all events, read one after the other.
-fn put_events(text: &mut [u8], start: usize, mode: u8, commands: &[u32]) -> usize
-    requires commands_value { (refusal_of mode commands.now ≡ 0) × (length commands.now ≤ most_of_all) }
-    requires commands_in_bounds { start + length (event_lines (channel_words mode) commands.now 0 (channel_words mode * length commands.now)) ≤ length text.old }
-    ensures { Wrote (event_lines (channel_words mode) commands.now 0 (channel_words mode * length commands.now)) start text.old result text.new }
-{
-    let n = commands::channel_words(mode);
-    let all = n * commands.len();
-    let mut at = start;
-    let mut from = 0;
-    while from < all {
-        let read = commands::read(mode, commands, from);
-        let event = read.event;
-        at = put_event(text, at, multiblock_of(n, read.begin), event, read.message);
-        from = read.next;
+    fn put_all(&self, text: &mut [u8], e: u32, received: u32) -> usize
+        ensures { Wrote (messages_text self.now.mode e received self.now.commands.now) 0 text.old result text.new }
+    {
+        let row = modes::row_of(self.mode);
+        let start = fields::put_head(text, row, e, received, self.commands.len() as u32);
+        self.put_events(text, start)
     }
-    at
-}
 
-// The header line and a line for each event, or 7 where there is no room.
-pub(crate) fn put_messages(
-    text: &mut [u8],
-    mode: u8,
-    e: u32,
-    received: u32,
-    commands: &[u32],
-) -> Listed
-    requires { (refusal_of mode commands.now ≡ 0) × (length commands.now ≤ most_of_all) }
-    ensures { done result text.new ≡ room_over (messages_text mode e received commands.now) text.old }
-{
-    let row = modes::row_of(mode);
-    let head = fields::head_width(row, e, received, commands.len() as u32);
-    let lines = events_width(mode, commands);
-    if head + lines > text.len() {
-        return Listed {
-            refusal: 7,
-            count: 0,
-        };
+    // The header line and a line for each event, measured first.
+    pub(crate) fn put(&self, text: &mut [u8], e: u32, received: u32) -> Result<usize, Refusal>
+        ensures { done (counted result) text.new ≡ room_over (messages_text self.now.mode e received self.now.commands.now) text.old }
+    {
+        if self.put_all(&mut [], e, received) > text.len() {
+            return Err(Refusal::Room);
+        }
+        Ok(self.put_all(text, e, received))
     }
-    let start = fields::put_head(text, row, e, received, commands.len() as u32);
-    let count = put_events(text, start, mode, commands);
-    Listed { refusal: 0, count }
 }

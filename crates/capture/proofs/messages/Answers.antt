@@ -1,40 +1,35 @@
-use mathlib.Core.Path.{sym, ◌∙◌}
-use native.Mathlib.Omega.{arith}
-use Rattle.capture.proofs.Refusals.{accepted-read, mode-read, extent-read, start-read, lane-read}
-use Rattle.capture.proofs.Channel.{opened-too, lane-tellable}
+use mathlib.Core.Path.{◌≡◌, ◌∙◌}
+use Rattle.std.proofs.Common.{rules}
+use Rattle.capture.specs.Form.{mode_of}
+use Rattle.capture.specs.Messages.{has_commands, messages_refusal}
+use Rattle.capture.proofs.Refusals.{accepted, receivable, refused-read, opened-read}
+use Rattle.capture.proofs.Channel.{known_some}
 use Rattle.capture.proofs.Told.{refused-messages, whole-messages}
 use Rattle.capture.proofs.messages.Goals as goal
 
-pub returns-then-refusal-ne0 : goal.returns-then-refusal-ne0
-returns-then-refusal-ne0 c =
-    let a = c.args in
-    refused-messages a.capture.now a.text.now _ c.messages_refusal-refusal.ensures c.if-refusal-ne0.true
-
-pub slice_bounds-tell-count : goal.slice_bounds-tell-count
-slice_bounds-tell-count c =
+pub returns-in_err-opened : goal.returns-in_err-opened
+unfolding messages_refusal has_commands
+returns-in_err-opened c =
     let capture = c.args.capture.now in
-    let o = c.open-opened in
-    let z = opened-too capture (sym c.messages_refusal-refusal.ensures ∙ c.if-refusal-ne0.false) o.result o.ensures in
-    omega (arith, start-read capture o.result o.ensures z, (accepted-read capture o.result o.ensures z).long)
-
-pub slice_bounds-tell-start : goal.slice_bounds-tell-start
-slice_bounds-tell-start c =
-    let capture = c.args.capture.now in
-    let o = c.open-opened in
-    let z = opened-too capture (sym c.messages_refusal-refusal.ensures ∙ c.if-refusal-ne0.false) o.result o.ensures in
-    omega (arith, start-read capture o.result o.ensures z, (accepted-read capture o.result o.ensures z).long)
+    let h = c.in_err-opened.ensures in
+    let own : h.0 ≡ has_commands (mode_of capture) = search rules in
+    refused-messages capture c.args.text.now _ (refused-read has_commands capture h.0 own _ h.2) c.from_residual.result c.from_residual.ensures.1
 
 pub tell-requires : goal.tell-requires
+unfolding messages_refusal has_commands
 tell-requires c =
-    let o = c.open-opened in
-    lane-tellable c.args.capture.now (sym c.messages_refusal-refusal.ensures ∙ c.if-refusal-ne0.false) o.result o.ensures
+    let capture = c.args.capture.now in
+    let h = c.in_ok-opened.ensures in
+    let own : h.0 ≡ has_commands (mode_of capture) = search rules in
+    let is = opened-read has_commands capture h.0 own c.in_ok-opened.opened h.2 in
+    let a = accepted has_commands capture is.0 in
+    rw (← is.1, ← is.3) (a.mode, receivable capture a (known_some (mode_of capture) a.mode))
 
 pub returns : goal.returns
+unfolding messages_refusal has_commands
 returns c =
     let capture = c.args.capture.now in
-    let o = c.open-opened.result in
-    let e = c.open-opened.ensures in
-    let none = sym c.messages_refusal-refusal.ensures ∙ c.if-refusal-ne0.false in
-    let z = opened-too capture none o e in
-    c.tell.ensures
-    ∙ whole-messages capture c.args.text.now o.mode o.e _ none (mode-read capture o e z) (extent-read capture o e z) (lane-read capture o e z)
+    let h = c.in_ok-opened.ensures in
+    let own : h.0 ≡ has_commands (mode_of capture) = search rules in
+    let is = opened-read has_commands capture h.0 own c.in_ok-opened.opened h.2 in
+    c.tell.ensures ∙ whole-messages capture c.args.text.now _ _ _ is.0 is.1 is.2 is.3

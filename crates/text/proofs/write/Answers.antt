@@ -15,14 +15,14 @@ returns-then-statuses-gt-MOST c =
     let same = lengths-alike (length a.statuses.now) (length a.places.now) (length a.patterns.now) (ap not (sym c.alike.ensures) ∙ (ap not c.if-not-alike.false)) in
     too_many a.row a.e a.received a.statuses.now a.places.now a.patterns.now a.text.now same.0 same.1 (omega (arith, most-is))
 
-pub put_text-requires : goal.put_text-requires
-put_text-requires c =
+pub invariant_of-releases : goal.invariant_of-releases
+invariant_of-releases c =
     let a = c.args in
     let same = lengths-alike (length a.statuses.now) (length a.places.now) (length a.patterns.now) (ap not (sym c.alike.ensures) ∙ (ap not c.if-not-alike.false)) in
-    (omega (arith, most-is), same.0, same.1)
+    record { few = omega (arith, most-is); placed = same.0; patterned = same.1 }
 
 pub returns : goal.returns
 returns c =
     let a = c.args in
     let same = lengths-alike (length a.statuses.now) (length a.places.now) (length a.patterns.now) (ap not (sym c.alike.ensures) ∙ (ap not c.if-not-alike.false)) in
-    c.put_text.ensures ∙ taken a.row a.e a.received a.statuses.now a.places.now a.patterns.now a.text.now same.0 same.1 (omega (arith, most-is))
+    c.put.ensures ∙ taken a.row a.e a.received a.statuses.now a.places.now a.patterns.now a.text.now same.0 same.1 (omega (arith, most-is))

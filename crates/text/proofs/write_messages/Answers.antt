@@ -25,13 +25,13 @@ returns-then-not-all_below c =
     let numbers = c.numbers_of-numbers in
     command-wide a.mode a.e a.received a.commands.now a.text.now n.result n.ensures c.if-channel_words-eq0.false (omega (arith, most-is)) own.result own.ensures numbers.result numbers.ensures (sym c.all_below.ensures ∙ c.if-not-all_below.true)
 
-pub put_messages-requires : goal.put_messages-requires
-put_messages-requires c =
+pub invariant_of-listed : goal.invariant_of-listed
+invariant_of-listed c =
     let a = c.args in
     let n = c.channel_words in
     let own = c.row_of in
     let numbers = c.numbers_of-numbers in
-    (sym (list-fits a.mode a.commands.now n.result n.ensures c.if-channel_words-eq0.false own.result own.ensures numbers.result numbers.ensures (sym c.all_below.ensures ∙ c.if-not-all_below.false)), omega (arith, most-is))
+    record { readable = sym (list-fits a.mode a.commands.now n.result n.ensures c.if-channel_words-eq0.false own.result own.ensures numbers.result numbers.ensures (sym c.all_below.ensures ∙ c.if-not-all_below.false)); few = omega (arith, most-is) }
 
 pub returns : goal.returns
 returns c =
@@ -39,4 +39,4 @@ returns c =
     let n = c.channel_words in
     let own = c.row_of in
     let numbers = c.numbers_of-numbers in
-    c.put_messages.ensures ∙ list-taken a.mode a.e a.received a.commands.now a.text.now n.result n.ensures c.if-channel_words-eq0.false (omega (arith, most-is)) own.result own.ensures numbers.result numbers.ensures (sym c.all_below.ensures ∙ c.if-not-all_below.false)
+    c.put.ensures ∙ list-taken a.mode a.e a.received a.commands.now a.text.now n.result n.ensures c.if-channel_words-eq0.false (omega (arith, most-is)) own.result own.ensures numbers.result numbers.ensures (sym c.all_below.ensures ∙ c.if-not-all_below.false)

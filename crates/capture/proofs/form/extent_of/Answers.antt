@@ -1,5 +1,5 @@
 use Prim.Native.Nat.{ℕ, ◌+◌, ◌*◌, ◌<◌}
-use mathlib.Core.Path.{◌≡◌}
+use mathlib.Core.Path.{◌≡◌, ◌∙◌}
 use mathlib.Core.List.{List}
 use native.Mathlib.Omega.{arith}
 use lib.ListN.{get_or}
@@ -15,4 +15,5 @@ pub returns : goal.returns
 returns c =
     let capture = c.args.capture.now in
     let octet = c.type_inv.capture in
-    two-octets capture _ _ c.octet_at.ensures c.octet_at-2.ensures (omega (arith, octet 5)) (omega (arith, octet 6))
+    c.from.ensures
+    ∙ omega (arith, c.from_be_bytes.ensures, two-octets capture _ _ c.octet_at.ensures c.octet_at-2.ensures (omega (arith, octet 5)) (omega (arith, octet 6)))

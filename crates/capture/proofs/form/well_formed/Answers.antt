@@ -1,30 +1,58 @@
+use Prim.Native.Nat.{ℕ, ◌+◌, ◌-◌}
+use mathlib.Core.Path.{◌≡◌, refl, sym, ap, ◌∙◌}
+use mathlib.Core.Bool.{Bool, true, false, ◌&&◌}
 use native.Mathlib.Omega.{arith}
+use borrow.Author.Tests.{le-leb, lt-leb}
+use lib.Dec.{leb, eqb}
+use lib.ListN.{length}
+use Rattle.bits.specs.Order.{bit_at, number}
 use Rattle.frame.proofs.Rows.{longest-is}
-use Rattle.capture.proofs.Refusals.{longest-read, too_short, too_long, settings-miscounted, lane-miscounted, formed}
+use Rattle.capture.specs.Form.{mode_of, longest_of, well_formed}
 use Rattle.capture.proofs.form.well_formed.Goals as goal
+use Rattle.capture.proofs.form.well_formed.Goals.{then-long-ge11, else-long-ge11, then-long-longest_of, else-long-longest_of}
 
-pub returns-then-capture-lt11 : goal.returns-then-capture-lt11
-returns-then-capture-lt11 c = too_short c.args.capture.now c.if-capture-lt11.true
+in_a_row : (s t x : Bool) → ((s && t) && x) ≡ (s && (t && x))
+in_a_row true t x = refl
+in_a_row false t x = refl
 
 pub overflow_add-longest_of : goal.overflow_add-longest_of
 overflow_add-longest_of c = omega (arith, c.longest_of.ensures.1, longest-is)
 
-pub returns-then-capture-longest_of : goal.returns-then-capture-longest_of
-returns-then-capture-longest_of c =
+pub returns-then-count_at-eq3 : goal.returns-then-count_at-eq3
+unfolding well_formed
+returns-then-count_at-eq3 c =
     let capture = c.args.capture.now in
-    too_long capture c.if-capture-lt11.false (omega (arith, longest-read capture _ _ c.octet_at.ensures c.longest_of.ensures.0, c.if-capture-longest_of.true))
+    let sizes = leb 11 (length capture) && leb (length capture) (11 + longest_of (mode_of capture)) in
+    let three = eqb (number (bit_at capture) 0 32) 3 in
+    let first : c.if-long-ge11.value ≡ sizes
+    = elim c.if-long-ge11.branch [
+      | then-long-ge11 w ↦ w.value-is ∙ rw (le-leb 11 (length capture) w.if-long-ge11.true, w.longest_of.ensures.0, w.mode_of.ensures) refl
+      | else-long-ge11 w ↦ w.value-is ∙ rw (lt-leb 11 (length capture) w.if-long-ge11.false) refl
+    ] in
+    let second : c.if-long-longest_of.value ≡ (sizes && three)
+    = elim c.if-long-longest_of.branch [
+      | then-long-longest_of w ↦ w.value-is ∙ ap (λ (x : ℕ). eqb x 3) w.count_at.ensures ∙ ap (λ (t : Bool). t && three) (sym w.if-long-longest_of.true ∙ first)
+      | else-long-longest_of w ↦ w.value-is ∙ w.if-long-longest_of.false ∙ ap (λ (t : Bool). t && three) (sym w.if-long-longest_of.false ∙ first)
+    ] in
+    let last = eqb (number (bit_at capture) 56 32) (length capture - 11) in
+    ap (λ (x : ℕ). eqb x (length capture - 11)) c.count_at-then-count_at-eq3.ensures
+    ∙ ap (λ (t : Bool). t && last) (sym c.if-count_at-eq3.true ∙ second) ∙ in_a_row sizes three last
 
-pub returns-then-count_at-ne3 : goal.returns-then-count_at-ne3
-returns-then-count_at-ne3 c =
+pub returns-else-count_at-eq3 : goal.returns-else-count_at-eq3
+unfolding well_formed
+returns-else-count_at-eq3 c =
     let capture = c.args.capture.now in
-    settings-miscounted capture c.if-capture-lt11.false (omega (arith, longest-read capture _ _ c.octet_at.ensures c.longest_of.ensures.0, c.if-capture-longest_of.false)) _ c.count_at.ensures c.if-count_at-ne3.true
-
-pub returns-then-count_at-capture : goal.returns-then-count_at-capture
-returns-then-count_at-capture c =
-    let capture = c.args.capture.now in
-    lane-miscounted capture c.if-capture-lt11.false (omega (arith, longest-read capture _ _ c.octet_at.ensures c.longest_of.ensures.0, c.if-capture-longest_of.false)) _ c.count_at.ensures c.if-count_at-ne3.false _ c.count_at-2.ensures c.if-count_at-capture.true
-
-pub returns : goal.returns
-returns c =
-    let capture = c.args.capture.now in
-    formed capture c.if-capture-lt11.false (omega (arith, longest-read capture _ _ c.octet_at.ensures c.longest_of.ensures.0, c.if-capture-longest_of.false)) _ c.count_at.ensures c.if-count_at-ne3.false _ c.count_at-2.ensures c.if-count_at-capture.false
+    let sizes = leb 11 (length capture) && leb (length capture) (11 + longest_of (mode_of capture)) in
+    let three = eqb (number (bit_at capture) 0 32) 3 in
+    let first : c.if-long-ge11.value ≡ sizes
+    = elim c.if-long-ge11.branch [
+      | then-long-ge11 w ↦ w.value-is ∙ rw (le-leb 11 (length capture) w.if-long-ge11.true, w.longest_of.ensures.0, w.mode_of.ensures) refl
+      | else-long-ge11 w ↦ w.value-is ∙ rw (lt-leb 11 (length capture) w.if-long-ge11.false) refl
+    ] in
+    let second : c.if-long-longest_of.value ≡ (sizes && three)
+    = elim c.if-long-longest_of.branch [
+      | then-long-longest_of w ↦ w.value-is ∙ ap (λ (x : ℕ). eqb x 3) w.count_at.ensures ∙ ap (λ (t : Bool). t && three) (sym w.if-long-longest_of.true ∙ first)
+      | else-long-longest_of w ↦ w.value-is ∙ w.if-long-longest_of.false ∙ ap (λ (t : Bool). t && three) (sym w.if-long-longest_of.false ∙ first)
+    ] in
+    let last = eqb (number (bit_at capture) 56 32) (length capture - 11) in
+    c.if-count_at-eq3.false ∙ ap (λ (t : Bool). t && last) (sym c.if-count_at-eq3.false ∙ second) ∙ in_a_row sizes three last

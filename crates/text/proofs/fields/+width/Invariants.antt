@@ -1,4 +1,0 @@
-use Rattle.text.proofs.fields.+width.Given as goal
-
-abbrev pub decreases-width : goal.decreases-width
-decreases-width l = l.n
