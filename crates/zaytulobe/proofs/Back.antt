@@ -4,9 +4,10 @@ use mathlib.Core.Path.{◌≡◌, refl, ap₂}
 use mathlib.Core.Bool.{Bool, true, false, ◌&&◌}
 use Prim.Native.Nat.{ℕ, zero, suc, ◌≤◌}
 use native.Mathlib.Omega.{arith}
-use mir.Val.{bool_byte}
 use lib.Dec.{T, leb, leb→le}
-use Rattle.bits.specs.Choice.{bit_of}
+use Rattle.std.proofs.Common.{Ok, Err}
+use Rattle.answers.specs.declared.Refusal.TheVariants.{State}
+use Rattle.bits.specs.Choice.{pick, bit_of}
 use Rattle.bits.proofs.Tests.{left, right}
 use Rattle.receiver.specs.declared.Receiver.{Receiver}
 use Rattle.lock.specs.declared.Phase.{Phase}
@@ -19,10 +20,6 @@ use Rattle.zaytulobe.specs.Receivers as receivers
 use Rattle.zaytulobe.specs.Locks as locks
 
 -- bools and phases
-pub bit-number : (b : Bool) → bool_byte b ≡ bit_of b
-bit-number true = refl
-bit-number false = refl
-
 bool-back : (n : ℕ) → n ≤ 1 → bit_of (bool_of n) ≡ n
 bool-back zero h = refl
 bool-back (suc zero) h = refl
@@ -44,6 +41,11 @@ unfolding locks.phase_of
 number-back Hunting = refl
 number-back Following = refl
 number-back Locked = refl
+
+-- what is read from numbers is the state that they stand for, and they fit
+pub only-fitting : {A : Type 0} (fits : Bool) (state given : A) → Ok given ≡ pick fits (Ok state) (Err State) → (fits ≡ true) × (given ≡ state)
+only-fitting true state given e = (refl, cc)
+only-fitting false state given e = cc
 
 -- a receiver's state
 pub receiver-numbers : (x : ReceiverNumbers) → T (receivers.fit x) → receivers.as_numbers (receivers.state_of x) ≡ x

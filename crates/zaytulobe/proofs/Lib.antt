@@ -1,3 +1,2 @@
--- Laws of states as numbers, that each stands for one state; and of what an entry answers by a number of refusal.
+-- Laws of states as numbers, that each stands for one state.
 pub mod Back
-pub mod Answers

@@ -1,6 +1,8 @@
 -- The locks' state as numbers: which numbers fit, the state that they stand for, and back (clause 7.6; document 01, "Lock tables").
 -- Assumes nothing.
-use Rattle.std.specs.Prelude.{Bool, ◌&&◌, ℕ, leb, eqb}
+use Rattle.std.specs.Prelude.{Bool, ◌&&◌, ℕ, Result, Ok, Err, leb, eqb}
+use Rattle.answers.specs.declared.Refusal.{Refusal}
+use Rattle.answers.specs.declared.Refusal.TheVariants.{State}
 use Rattle.bits.specs.Choice.{pick, bit_of}
 use Rattle.lock.specs.declared.Phase.{Phase}
 use Rattle.lock.specs.declared.Phase.TheVariants.{Hunting, Following, Locked}
@@ -21,7 +23,7 @@ phase_number Hunting = 0
 phase_number Following = 1
 phase_number Locked = 2
 
--- the state that numbers stand for, and the numbers of a state
+-- the state that numbers stand for
 unfoldable pub state_of : LockNumbers → Lock
 state_of x = record {
   header = record { locked = bool_of x.header.locked; offset = x.header.offset; run = x.header.run; bad = x.header.bad };
@@ -36,6 +38,11 @@ state_of x = record {
   };
 }
 
+-- the state, refused by 3 where the numbers stand for none
+unfoldable pub read : LockNumbers → Result Lock Refusal
+read x = pick (fit x) (Ok (state_of x)) (Err State)
+
+-- the numbers of a state
 unfoldable pub as_numbers : Lock → LockNumbers
 as_numbers l = record {
   header = record { locked = bit_of l.header.locked; offset = l.header.offset; run = l.header.run; bad = l.header.bad };

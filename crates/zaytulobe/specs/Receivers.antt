@@ -1,8 +1,10 @@
 -- A receiver's state as numbers: which numbers fit, the state that they stand for, and back (document 01, "What the receiver releases";
 -- requests 5 and 7).
 -- Assumes nothing.
-use Rattle.std.specs.Prelude.{Bool, ◌&&◌}
-use Rattle.bits.specs.Choice.{bit_of}
+use Rattle.std.specs.Prelude.{Bool, ◌&&◌, Result, Ok, Err}
+use Rattle.answers.specs.declared.Refusal.{Refusal}
+use Rattle.answers.specs.declared.Refusal.TheVariants.{State}
+use Rattle.bits.specs.Choice.{pick, bit_of}
 use Rattle.receiver.specs.declared.Receiver.{Receiver}
 use Rattle.zaytulobe.specs.declared.receivers.ReceiverNumbers.{ReceiverNumbers}
 use Rattle.zaytulobe.specs.Bool.{is_bool, bool_of}
@@ -11,7 +13,7 @@ use Rattle.zaytulobe.specs.Bool.{is_bool, bool_of}
 unfoldable pub fit : ReceiverNumbers → Bool
 fit x = is_bool x.waiting && is_bool x.trusted
 
--- the state that numbers stand for, and the numbers of a state
+-- the state that numbers stand for
 unfoldable pub state_of : ReceiverNumbers → Receiver
 state_of x = record {
   waiting = bool_of x.waiting;
@@ -26,6 +28,11 @@ state_of x = record {
   failed = x.failed;
 }
 
+-- the state, refused by 3 where the numbers stand for none
+unfoldable pub read : ReceiverNumbers → Result Receiver Refusal
+read x = pick (fit x) (Ok (state_of x)) (Err State)
+
+-- the numbers of a state
 unfoldable pub as_numbers : Receiver → ReceiverNumbers
 as_numbers s = record {
   history = s.history;

@@ -1,9 +1,13 @@
 -- The receiver over numbers, for callers in C: a bool is 0 or 1, and any other number is refused by 3, as a state field out of range is
 -- (document 01, "Numbers of refusal"). All else is the receiver's own `entry`. Assumes nothing.
-use Rattle.std.specs.Prelude.{not, List, [], ◌∷◌, ℕ, eqb}
+use Rattle.std.specs.Prelude.{not, List, [], ◌∷◌, ℕ, Result, Ok, Err, eqb}
+use Rattle.answers.specs.declared.Ran.{Ran}
+use Rattle.answers.specs.declared.Refusal.{Refusal}
+use Rattle.answers.specs.Numbers.{number}
 use Rattle.bits.specs.Choice.{pick}
 use Rattle.bits.specs.Refusals.{Line, ◌when◌, refusal_by}
 use Rattle.frame.specs.Modes.{known}
+use Rattle.receiver.specs.declared.Receiver.{Receiver}
 use Rattle.receiver.specs.Entry.{entry}
 use Rattle.receiver.specs.Entry as receiver
 use Rattle.zaytulobe.specs.declared.receivers.ReceiverNumbers.{ReceiverNumbers}
@@ -28,6 +32,11 @@ unfoldable pub in_numbers : receiver.Done → Done
 in_numbers d =
     done (record { refusal = d.answer.refusal; count = d.answer.count; state = as_numbers d.answer.state })
     d.octets d.statuses d.commands d.places d.patterns d.invalid
+
+-- an answer in numbers: a refusal hands back the numbers given
+abbrev pub answer_numbers : ReceiverNumbers → Result (Ran Receiver) Refusal → ReceivedNumbers
+answer_numbers x (Ok ran) = record { refusal = 0; count = ran.count; state = as_numbers ran.state }
+answer_numbers x (Err why) = record { refusal = number why; count = 0; state = x }
 
 -- what is asked before numbers are read as a state
 abbrev pub refusals : ℕ → ReceiverNumbers → List Line

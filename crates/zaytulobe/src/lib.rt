@@ -7,16 +7,28 @@ ghost use Rattle.sender.specs.Entry.{done as send_done, entry};
 ghost use Rattle.text.specs.Writing.{done as list_done};
 ghost use Rattle.capture.specs.Listing.{listed};
 ghost use Rattle.capture.specs.Messages.{told};
+ghost use Rattle.zaytulobe.specs.Counts.{as_counted};
 ghost use Rattle.zaytulobe.specs.Running.{longest_numbers};
+ghost use Rattle.zaytulobe.specs.Sending.{as_answer};
 
-use sender::{Sender, Sent};
-use text::Listed;
+use counts::CountedNumbers;
+use sender::Sender;
 
+pub mod counts;
 pub mod locking;
 pub mod locks;
 pub mod messages;
 pub mod receivers;
 pub mod receiving;
+
+// A refusal, or 0 with the multiblocks sent; and the state for the next call.
+#[repr(C)]
+#[derive(Clone, Copy)]
+pub struct SentNumbers {
+    pub refusal: u8,
+    pub count: usize,
+    pub state: Sender,
+}
 
 // A refusal, or 0 with the longest run in multiblocks: the first, and how many.
 #[repr(C)]
@@ -44,21 +56,32 @@ pub extern "C" fn zaytulobe_send(
     user: &[u8],
     commands: &[u32],
     lane: &mut [u8],
-) -> Sent
-    ensures { send_done result lane.new ≡ entry mode e state user.now commands.now lane.old }
+) -> SentNumbers
+    ensures { send_done (as_answer result) lane.new ≡ entry mode e state user.now commands.now lane.old }
 {
-    sender::send(mode, e, state, user, commands, lane)
+    match sender::send(mode, e, state, user, commands, lane) {
+        Ok(ran) => SentNumbers {
+            refusal: 0,
+            count: ran.count,
+            state: ran.state,
+        },
+        Err(why) => SentNumbers {
+            refusal: why.number(),
+            count: 0,
+            state,
+        },
+    }
 }
 
 // The longest run of multiblocks with status 0 or 1, in numbers.
+#[tactic(auto, unfolding(crate::specs::Running::longest_numbers))]
 #[unsafe(no_mangle)]
 pub extern "C" fn zaytulobe_longest_run(octets: &[u8], statuses: &[u8]) -> RunNumbers
     ensures { result ≡ longest_numbers octets.now statuses.now }
 {
-    let refusal = longest::refusal_for(octets, statuses);
-    if refusal != 0 {
+    if let Err(why) = longest::check(octets, statuses) {
         return RunNumbers {
-            refusal,
+            refusal: why.number(),
             start: 0,
             count: 0,
         };
@@ -73,16 +96,16 @@ pub extern "C" fn zaytulobe_longest_run(octets: &[u8], statuses: &[u8]) -> RunNu
 
 // The listing of a capture, over the start of `text`.
 #[unsafe(no_mangle)]
-pub extern "C" fn zaytulobe_listing(capture: &[u8], text: &mut [u8]) -> Listed
-    ensures { list_done result text.new ≡ listed capture.now text.old }
+pub extern "C" fn zaytulobe_listing(capture: &[u8], text: &mut [u8]) -> CountedNumbers
+    ensures { list_done (as_counted result) text.new ≡ listed capture.now text.old }
 {
-    capture::listing(capture, text)
+    CountedNumbers::from(capture::listing(capture, text))
 }
 
 // What is told of the messages in a capture, over the start of `text`.
 #[unsafe(no_mangle)]
-pub extern "C" fn zaytulobe_messages(capture: &[u8], text: &mut [u8]) -> Listed
-    ensures { list_done result text.new ≡ told capture.now text.old }
+pub extern "C" fn zaytulobe_messages(capture: &[u8], text: &mut [u8]) -> CountedNumbers
+    ensures { list_done (as_counted result) text.new ≡ told capture.now text.old }
 {
-    capture::messages(capture, text)
+    CountedNumbers::from(capture::messages(capture, text))
 }

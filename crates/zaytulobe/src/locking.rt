@@ -1,12 +1,11 @@
 // The locks for callers in C. Clause 7.6; document 01, "Lock tables".
 ghost use Rattle.std.specs.Prelude.{◌≡◌};
-ghost use Rattle.bits.specs.Refusals.{refusal_by};
 ghost use Rattle.lock.specs.Table.{fresh};
 ghost use Rattle.zaytulobe.specs.Locks.{as_numbers};
-ghost use Rattle.zaytulobe.specs.Locking.{refusals, step_numbers};
+ghost use Rattle.zaytulobe.specs.Locking.{answer_numbers, step_numbers};
 
-use crate::locks;
 use crate::locks::LockNumbers;
+use answers::Refusal;
 use frame::modes;
 use lock::Lock;
 
@@ -23,26 +22,25 @@ pub struct SteppedNumbers {
 pub extern "C" fn zaytulobe_fresh_lock() -> LockNumbers
     ensures { result ≡ as_numbers fresh }
 {
-    locks::as_numbers(Lock::fresh())
+    LockNumbers::from(Lock::fresh())
 }
 
-// What is asked before numbers are read as a state.
-fn refusal_of(mode: u8, e: u32, lock: LockNumbers) -> u8
-    ensures { result ≡ refusal_by (refusals mode e lock) }
+// The step from the state that numbers stand for; refused by 3 too where the bool or the phase is none.
+#[tactic(auto, unfolding(crate::specs::Locking::step_numbers, crate::specs::Locks::read, bits::specs::Refusals::refusal_by))]
+fn step(mode: u8, e: u32, lock: LockNumbers, header: u8) -> Result<Lock, Refusal>
+    ensures { answer_numbers lock result ≡ step_numbers mode e lock header }
 {
     if !modes::known(mode) {
-        return 1;
+        return Err(Refusal::Mode);
     }
     if !modes::extent_fits(e) {
-        return 2;
+        return Err(Refusal::Extent);
     }
-    if !locks::fit(lock) {
-        return 3;
-    }
-    0
+    let given = Lock::try_from(lock)?;
+    lock::step(mode, e, given, header)
 }
 
-// Both locks after one more header; refused by 3 too where the bool or the phase is none.
+// Both locks after one more header.
 #[unsafe(no_mangle)]
 pub extern "C" fn zaytulobe_lock_step(
     mode: u8,
@@ -52,16 +50,14 @@ pub extern "C" fn zaytulobe_lock_step(
 ) -> SteppedNumbers
     ensures { result ≡ step_numbers mode e lock header }
 {
-    let refusal = refusal_of(mode, e, lock);
-    if refusal != 0 {
-        return SteppedNumbers { refusal, lock };
-    }
-    let given = locks::state_of(lock);
-    let stepped = lock::step(mode, e, given, header);
-    let after = stepped.lock;
-    let numbers = locks::as_numbers(after);
-    SteppedNumbers {
-        refusal: stepped.refusal,
-        lock: numbers,
+    match step(mode, e, lock, header) {
+        Ok(next) => SteppedNumbers {
+            refusal: 0,
+            lock: LockNumbers::from(next),
+        },
+        Err(why) => SteppedNumbers {
+            refusal: why.number(),
+            lock,
+        },
     }
 }

@@ -1,8 +1,9 @@
 // The locks' state as numbers, for callers in C, who may hand any number where a bool or a phase is meant: whether numbers fit, the state that
 // they stand for, and the numbers of a state. Clause 7.6; document 01, "Lock tables" and "Numbers of refusal".
 ghost use Rattle.std.specs.Prelude.{◌≡◌};
-ghost use Rattle.zaytulobe.specs.Locks.{fit, phase_of, phase_number, state_of, as_numbers};
+ghost use Rattle.zaytulobe.specs.Locks.{fit, phase_of, phase_number, read, as_numbers};
 
+use answers::Refusal;
 use lock::{ExtendedLock, HeaderLock, Lock, Phase};
 
 // Header lock as numbers: `locked` is 0 or 1.
@@ -37,24 +38,22 @@ pub struct LockNumbers {
 }
 
 // Whether the bool is 0 or 1 and the phase 0, 1 or 2.
-pub(crate) fn fit(given: LockNumbers) -> bool
+#[tactic(auto, unfolding(crate::specs::Locks::fit))]
+fn fit(given: LockNumbers) -> bool
     ensures { result ≡ fit given }
 {
-    let header = given.header;
-    let extended = given.extended;
-    (header.locked <= 1) & (extended.phase <= 2)
+    given.header.locked <= 1 && given.extended.phase <= 2
 }
 
+#[tactic(auto, unfolding(crate::specs::Locks::phase_of))]
 fn phase_of(number: u32) -> Phase
     ensures { result ≡ phase_of number }
 {
-    if number == 2 {
-        return Phase::Locked;
+    match number {
+        2 => Phase::Locked,
+        1 => Phase::Following,
+        _ => Phase::Hunting,
     }
-    if number == 1 {
-        return Phase::Following;
-    }
-    Phase::Hunting
 }
 
 fn phase_number(phase: Phase) -> u32
@@ -67,53 +66,63 @@ fn phase_number(phase: Phase) -> u32
     }
 }
 
-// The state that numbers stand for.
-pub(crate) fn state_of(given: LockNumbers) -> Lock
-    ensures { result ≡ state_of given }
-{
-    let header = given.header;
-    let extended = given.extended;
-    let phase = phase_of(extended.phase);
-    let header = HeaderLock {
-        locked: header.locked == 1,
-        offset: header.offset,
-        run: header.run,
-        bad: header.bad,
-    };
-    let extended = ExtendedLock {
-        phase,
-        seen: extended.seen,
-        headers: extended.headers,
-        good: extended.good,
-        bad: extended.bad,
-        next: extended.next,
-        kept: extended.kept,
-    };
-    Lock { header, extended }
+// The state that numbers stand for, if they fit.
+impl TryFrom<LockNumbers> for Lock {
+    type Error = Refusal;
+
+    ghost try_from_gives = { λ given result. result ≡ read given };
+
+    #[tactic(auto, unfolding(crate::specs::Locks::read, crate::specs::Locks::state_of))]
+    fn try_from(given: LockNumbers) -> Result<Lock, Refusal> {
+        if !fit(given) {
+            return Err(Refusal::State);
+        }
+        let header = given.header;
+        let extended = given.extended;
+        Ok(Lock {
+            header: HeaderLock {
+                locked: header.locked == 1,
+                offset: header.offset,
+                run: header.run,
+                bad: header.bad,
+            },
+            extended: ExtendedLock {
+                phase: phase_of(extended.phase),
+                seen: extended.seen,
+                headers: extended.headers,
+                good: extended.good,
+                bad: extended.bad,
+                next: extended.next,
+                kept: extended.kept,
+            },
+        })
+    }
 }
 
 // The numbers of a state.
-pub(crate) fn as_numbers(lock: Lock) -> LockNumbers
-    ensures { result ≡ as_numbers lock }
-{
-    let state = lock.header;
-    let header = HeaderNumbers {
-        locked: state.locked as u32,
-        offset: state.offset,
-        run: state.run,
-        bad: state.bad,
-    };
-    let state = lock.extended;
-    let phase = state.phase;
-    let phase = phase_number(phase);
-    let extended = ExtendedNumbers {
-        phase,
-        seen: state.seen,
-        headers: state.headers,
-        good: state.good,
-        bad: state.bad,
-        next: state.next,
-        kept: state.kept,
-    };
-    LockNumbers { header, extended }
+impl From<Lock> for LockNumbers {
+    ghost from_gives = { λ lock numbers. numbers ≡ as_numbers lock };
+
+    #[tactic(auto, unfolding(crate::specs::Locks::as_numbers))]
+    fn from(lock: Lock) -> LockNumbers {
+        let header = lock.header;
+        let state = lock.extended;
+        LockNumbers {
+            header: HeaderNumbers {
+                locked: u32::from(header.locked),
+                offset: header.offset,
+                run: header.run,
+                bad: header.bad,
+            },
+            extended: ExtendedNumbers {
+                phase: phase_number(state.phase),
+                seen: state.seen,
+                headers: state.headers,
+                good: state.good,
+                bad: state.bad,
+                next: state.next,
+                kept: state.kept,
+            },
+        }
+    }
 }

@@ -1,10 +1,11 @@
 // Messages for callers in C. Clauses 7.3.7 and 7.6.3; request 6.
 ghost use Rattle.std.specs.Prelude.{◌≡◌};
 ghost use Rattle.commands.specs.Writing.{done, writing};
-ghost use Rattle.commands.specs.Reading.{reading};
-ghost use Rattle.zaytulobe.specs.Events.{kind_of, code_of, count_of, event_numbers};
+ghost use Rattle.commands.specs.Reading.{unrefused, reading};
+ghost use Rattle.zaytulobe.specs.Counts.{as_counted};
+ghost use Rattle.zaytulobe.specs.Events.{no_event, event_numbers};
 
-use commands::Written;
+use crate::counts::CountedNumbers;
 use commands::events::{Event, Read};
 
 // A refusal, or 0 with an event: `kind` is 0 for the list's end, 1 a message, 2 a cut, 3 a code that is not defined.
@@ -20,56 +21,52 @@ pub struct EventNumbers {
     pub next: usize,
 }
 
-fn kind_of(event: Event) -> u8
-    ensures { result ≡ kind_of event }
-{
-    match event {
-        Event::Nothing => 0,
-        Event::Message => 1,
-        Event::Cut(_) => 2,
-        Event::Undefined(_) => 3,
+impl EventNumbers {
+    // No event, from the word where one was looked for, with the word to go on from.
+    fn none(begin: usize, next: usize) -> EventNumbers
+        ensures { result ≡ no_event begin next }
+    {
+        EventNumbers {
+            refusal: 0,
+            kind: 0,
+            code: 0,
+            words: [0; 7],
+            count: 0,
+            begin,
+            next,
+        }
     }
 }
 
-// The function code, where a message has its own.
-fn code_of(event: Event, own: u8) -> u8
-    ensures { result ≡ code_of event own }
-{
-    match event {
-        Event::Nothing => 0,
-        Event::Message => own,
-        Event::Cut(_) => 0,
-        Event::Undefined(code) => code,
-    }
-}
+impl From<Read> for EventNumbers {
+    ghost from_gives = { λ read numbers. numbers ≡ event_numbers (unrefused read) };
 
-// How many words, where a message has its own.
-fn count_of(event: Event, own: usize) -> usize
-    ensures { result ≡ count_of event own }
-{
-    match event {
-        Event::Nothing => 0,
-        Event::Message => own,
-        Event::Cut(taken) => taken,
-        Event::Undefined(_) => 0,
-    }
-}
-
-// The numbers of what was read.
-fn as_numbers(read: Read) -> EventNumbers
-    ensures { result ≡ event_numbers read }
-{
-    let event = read.event;
-    let message = read.message;
-    let words = message.words;
-    EventNumbers {
-        refusal: read.refusal,
-        kind: kind_of(event),
-        code: code_of(event, message.code),
-        words,
-        count: count_of(event, message.count),
-        begin: read.begin,
-        next: read.next,
+    #[tactic(auto, unfolding(crate::specs::Events::event_numbers))]
+    fn from(read: Read) -> EventNumbers {
+        let none = EventNumbers::none(read.begin, read.next);
+        match read.event {
+            None => none,
+            Some(Event::Message(message)) => {
+                let words = message.words;
+                EventNumbers {
+                    kind: 1,
+                    code: message.code,
+                    words,
+                    count: message.count,
+                    ..none
+                }
+            }
+            Some(Event::Cut(taken)) => EventNumbers {
+                kind: 2,
+                count: taken,
+                ..none
+            },
+            Some(Event::Undefined(code)) => EventNumbers {
+                kind: 3,
+                code,
+                ..none
+            },
+        }
     }
 }
 
@@ -80,16 +77,23 @@ pub extern "C" fn zaytulobe_write_message(
     code: u8,
     payload: &[u8],
     commands: &mut [u32],
-) -> Written
-    ensures { done result commands.new ≡ writing mode code payload.now commands.old }
+) -> CountedNumbers
+    ensures { done (as_counted result) commands.new ≡ writing mode code payload.now commands.old }
 {
-    commands::write(mode, code, payload, commands)
+    CountedNumbers::from(commands::write(mode, code, payload, commands))
 }
 
 // Reads the first event at or after word `from`.
+#[tactic(auto, unfolding(crate::specs::Events::event_numbers))]
 #[unsafe(no_mangle)]
 pub extern "C" fn zaytulobe_read_event(mode: u8, commands: &[u32], from: usize) -> EventNumbers
     ensures { result ≡ event_numbers (reading mode commands.now from) }
 {
-    as_numbers(commands::read(mode, commands, from))
+    match commands::read(mode, commands, from) {
+        Ok(read) => EventNumbers::from(read),
+        Err(why) => EventNumbers {
+            refusal: why.number(),
+            ..EventNumbers::none(from, from)
+        },
+    }
 }

@@ -1,8 +1,9 @@
 // A receiver's state as numbers, for callers in C, who may hand any number where a bool is meant: whether numbers fit, the state that they
 // stand for, and the numbers of a state. Document 01, "What the receiver releases" and "Numbers of refusal".
 ghost use Rattle.std.specs.Prelude.{◌≡◌};
-ghost use Rattle.zaytulobe.specs.Receivers.{fit, state_of, as_numbers};
+ghost use Rattle.zaytulobe.specs.Receivers.{fit, read, as_numbers};
 
+use answers::Refusal;
 use receiver::Receiver;
 
 // `waiting` and `trusted` are 0 or 1.
@@ -22,46 +23,58 @@ pub struct ReceiverNumbers {
 }
 
 // Whether both bools are 0 or 1.
-pub(crate) fn fit(given: ReceiverNumbers) -> bool
+#[tactic(auto, unfolding(crate::specs::Receivers::fit))]
+fn fit(given: ReceiverNumbers) -> bool
     ensures { result ≡ fit given }
 {
-    (given.waiting <= 1) & (given.trusted <= 1)
+    given.waiting <= 1 && given.trusted <= 1
 }
 
-// The state that numbers stand for.
-pub(crate) fn state_of(given: ReceiverNumbers) -> Receiver
-    ensures { result ≡ state_of given }
-{
-    let octets = given.octets;
-    Receiver {
-        waiting: given.waiting == 1,
-        octets,
-        history: given.history,
-        trusted: given.trusted == 1,
-        command: given.command,
-        invalid: given.invalid,
-        own: given.own,
-        sound: given.sound,
-        repaired: given.repaired,
-        failed: given.failed,
+// The state that numbers stand for, if they fit.
+impl TryFrom<ReceiverNumbers> for Receiver {
+    type Error = Refusal;
+
+    ghost try_from_gives = { λ given result. result ≡ read given };
+
+    #[tactic(auto, unfolding(crate::specs::Receivers::read, crate::specs::Receivers::state_of))]
+    fn try_from(given: ReceiverNumbers) -> Result<Receiver, Refusal> {
+        if !fit(given) {
+            return Err(Refusal::State);
+        }
+        let octets = given.octets;
+        Ok(Receiver {
+            waiting: given.waiting == 1,
+            octets,
+            history: given.history,
+            trusted: given.trusted == 1,
+            command: given.command,
+            invalid: given.invalid,
+            own: given.own,
+            sound: given.sound,
+            repaired: given.repaired,
+            failed: given.failed,
+        })
     }
 }
 
 // The numbers of a state.
-pub(crate) fn as_numbers(state: Receiver) -> ReceiverNumbers
-    ensures { result ≡ as_numbers state }
-{
-    let octets = state.octets;
-    ReceiverNumbers {
-        history: state.history,
-        command: state.command,
-        waiting: state.waiting as u8,
-        trusted: state.trusted as u8,
-        octets,
-        invalid: state.invalid,
-        own: state.own,
-        sound: state.sound,
-        repaired: state.repaired,
-        failed: state.failed,
+impl From<Receiver> for ReceiverNumbers {
+    ghost from_gives = { λ state numbers. numbers ≡ as_numbers state };
+
+    #[tactic(auto, unfolding(crate::specs::Receivers::as_numbers))]
+    fn from(state: Receiver) -> ReceiverNumbers {
+        let octets = state.octets;
+        ReceiverNumbers {
+            history: state.history,
+            command: state.command,
+            waiting: u8::from(state.waiting),
+            trusted: u8::from(state.trusted),
+            octets,
+            invalid: state.invalid,
+            own: state.own,
+            sound: state.sound,
+            repaired: state.repaired,
+            failed: state.failed,
+        }
     }
 }

@@ -1,12 +1,11 @@
 // The receiver for callers in C. Document 01, "What the receiver releases".
 ghost use Rattle.std.specs.Prelude.{◌≡◌};
-ghost use Rattle.bits.specs.Refusals.{refusal_by};
 ghost use Rattle.receiver.specs.Release.{fresh};
 ghost use Rattle.zaytulobe.specs.Receivers.{as_numbers};
-ghost use Rattle.zaytulobe.specs.Receiving.{done, refusals, receive_numbers};
+ghost use Rattle.zaytulobe.specs.Receiving.{answer_numbers, done, receive_numbers};
 
-use crate::receivers;
 use crate::receivers::ReceiverNumbers;
+use answers::{Ran, Refusal};
 use frame::modes;
 use receiver::Receiver;
 
@@ -24,23 +23,35 @@ pub struct ReceivedNumbers {
 pub extern "C" fn zaytulobe_fresh_receiver() -> ReceiverNumbers
     ensures { result ≡ as_numbers fresh }
 {
-    receivers::as_numbers(Receiver::fresh())
+    ReceiverNumbers::from(Receiver::fresh())
 }
 
-// What is asked before numbers are read as a state.
-fn refusal_of(mode: u8, state: ReceiverNumbers) -> u8
-    ensures { result ≡ refusal_by (refusals mode state) }
+// Receives from the state that numbers stand for; refused by 3 too where a bool is neither 0 nor 1.
+#[tactic(auto, unfolding(crate::specs::Receiving::receive_numbers, crate::specs::Receivers::read, bits::specs::Refusals::refusal_by))]
+fn receive(
+    mode: u8,
+    state: ReceiverNumbers,
+    lane: &[u8],
+    octets: &mut [u8],
+    statuses: &mut [u8],
+    commands: &mut [u32],
+    places: &mut [u16],
+    patterns: &mut [u16],
+    invalid: &mut [u8],
+) -> Result<Ran<Receiver>, Refusal>
+    ensures { done (answer_numbers state result) octets.new statuses.new commands.new places.new patterns.new invalid.new
+        ≡ receive_numbers mode state lane.now octets.old statuses.old commands.old places.old patterns.old invalid.old }
 {
     if !modes::known(mode) {
-        return 1;
+        return Err(Refusal::Mode);
     }
-    if !receivers::fit(state) {
-        return 3;
-    }
-    0
+    let given = Receiver::try_from(state)?;
+    receiver::receive(
+        mode, given, lane, octets, statuses, commands, places, patterns, invalid,
+    )
 }
 
-// Receives the multiblocks of `lane`; refused by 3 too where a bool is neither 0 nor 1.
+// Receives the multiblocks of `lane`.
 #[unsafe(no_mangle)]
 pub extern "C" fn zaytulobe_receive(
     mode: u8,
@@ -56,23 +67,19 @@ pub extern "C" fn zaytulobe_receive(
     ensures { done result octets.new statuses.new commands.new places.new patterns.new invalid.new
         ≡ receive_numbers mode state lane.now octets.old statuses.old commands.old places.old patterns.old invalid.old }
 {
-    let refusal = refusal_of(mode, state);
-    if refusal != 0 {
-        return ReceivedNumbers {
-            refusal,
+    let received = receive(
+        mode, state, lane, octets, statuses, commands, places, patterns, invalid,
+    );
+    match received {
+        Ok(ran) => ReceivedNumbers {
+            refusal: 0,
+            count: ran.count,
+            state: ReceiverNumbers::from(ran.state),
+        },
+        Err(why) => ReceivedNumbers {
+            refusal: why.number(),
             count: 0,
             state,
-        };
-    }
-    let given = receivers::state_of(state);
-    let received = receiver::receive(
-        mode, given, lane, octets, statuses, commands, places, patterns, invalid,
-    );
-    let after = received.state;
-    let numbers = receivers::as_numbers(after);
-    ReceivedNumbers {
-        refusal: received.refusal,
-        count: received.count,
-        state: numbers,
+        },
     }
 }
