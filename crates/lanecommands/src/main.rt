@@ -16,12 +16,10 @@ fn print(octets: &[u8], text: &mut [u8]) -> usize
     requires { length text.old ≡ longest_messages }
     ensures { (result ≤ length text.new) × (take result text.new ≡ printed octets.now) }
 {
-    let told = capture::messages(octets, text);
-    if told.refusal != 0 {
-        let line = text::write_refusal(text, told.refusal);
-        return line.count;
+    match capture::messages(octets, text) {
+        Ok(count) => count,
+        Err(why) => text::write_refusal(text, why.number()).unwrap(),
     }
-    told.count
 }
 
 fn main(rt: HostRuntime) -> io::Result<()> {

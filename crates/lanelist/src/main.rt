@@ -16,12 +16,10 @@ fn print(octets: &[u8], text: &mut [u8]) -> usize
     requires { length text.old ≡ longest_text }
     ensures { (result ≤ length text.new) × (take result text.new ≡ printed octets.now) }
 {
-    let listed = capture::listing(octets, text);
-    if listed.refusal != 0 {
-        let line = text::write_refusal(text, listed.refusal);
-        return line.count;
+    match capture::listing(octets, text) {
+        Ok(count) => count,
+        Err(why) => text::write_refusal(text, why.number()).unwrap(),
     }
-    listed.count
 }
 
 fn main(rt: HostRuntime) -> io::Result<()> {

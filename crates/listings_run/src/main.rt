@@ -26,18 +26,12 @@ fn read_octets(input: &mut impl Read, count: usize, octets: &mut [u8]) -> io::Re
     Ok(())
 }
 
-fn write_refusal(rt: &impl Print, refusal: u8) -> io::Result<()> {
-    println!(rt; "refused {refusal}")
-}
-
 fn write_listing(rt: &impl Print, octets: &[u8]) -> io::Result<()> {
     let mut text = [0u8; capture::TEXT];
-    let listed = capture::listing(octets, &mut text);
-    if listed.refusal != 0 {
-        return write_refusal(rt, listed.refusal);
+    match capture::listing(octets, &mut text) {
+        Ok(count) => rt.write_all(&text[..count]),
+        Err(why) => println!(rt; "{why}"),
     }
-    let count = listed.count;
-    rt.write_all(&text[..count])
 }
 
 // Whether there was a name.

@@ -22,64 +22,39 @@ fn multiblock(row: usize) -> [u8; 256]
     octets
 }
 
-fn write_row(
+// The parities of a table's four rows, beside what it prints.
+fn write_blocks<F: Fn(&[u8]) -> u32>(
     rt: &impl Print,
-    label: &[u8],
-    row: usize,
-    value: u32,
-    printed: u64,
+    label: &str,
     digits: usize,
+    rows: [u64; 4],
+    parity_of: F,
 ) -> io::Result<()>
-    requires { digits ≤ 16 }
+    requires { F.IsAlwaysCallable parity_of }
 {
-    text::write(rt, label)?;
-    text::write_hex(rt, row as u64, 1)?;
-    text::write(rt, b" ")?;
-    text::write_value(rt, value as u64, digits, printed, digits)
-}
-
-fn write_crc12(rt: &impl Print, row: usize, printed: u64) -> io::Result<()>
-    requires { row ≤ 3 }
-{
-    let octets = multiblock(row);
-    write_row(rt, b"table 52 block ", row, Crc12::of(&octets), printed, 3)
+    for (row, &printed) in rows.iter().enumerate() {
+        let value = u64::from(parity_of(&multiblock(row)));
+        text::write_row(rt, label, row, value, digits, printed, digits)?;
+    }
+    Ok(())
 }
 
 pub(crate) fn write_crc12_blocks(rt: &impl Print) -> io::Result<()> {
-    write_crc12(rt, 0, 0xD00)?;
-    write_crc12(rt, 1, 0x11C)?;
-    write_crc12(rt, 2, 0xFE4)?;
-    write_crc12(rt, 3, 0x5FE)
+    let rows = [0xD00, 0x11C, 0xFE4, 0x5FE];
+    write_blocks(rt, "table 52 block", 3, rows, |octets| Crc12::of(octets))
 }
 
 // Of the parities of a multiblock's four groups that of the last, which has the blocks; it goes with the next sync word (request 5).
-fn write_crc3(rt: &impl Print, row: usize, printed: u64) -> io::Result<()>
-    requires { row ≤ 3 }
-{
-    let octets = multiblock(row);
-    let parts = sync::split(Sync::Crc3, Crc3::of(&octets));
-    write_row(rt, b"table 53 block ", row, parts.before, printed, 1)
-}
-
 pub(crate) fn write_crc3_blocks(rt: &impl Print) -> io::Result<()> {
-    write_crc3(rt, 0, 0b011)?;
-    write_crc3(rt, 1, 0b111)?;
-    write_crc3(rt, 2, 0b010)?;
-    write_crc3(rt, 3, 0b001)
-}
-
-fn write_fec(rt: &impl Print, row: usize, printed: u64) -> io::Result<()>
-    requires { row ≤ 3 }
-{
-    let octets = multiblock(row);
-    write_row(rt, b"table 54 block ", row, Fec::of(&octets), printed, 7)
+    let rows = [0b011, 0b111, 0b010, 0b001];
+    write_blocks(rt, "table 53 block", 1, rows, |octets| {
+        sync::split(Sync::Crc3, Crc3::of(octets)).before
+    })
 }
 
 pub(crate) fn write_fec_blocks(rt: &impl Print) -> io::Result<()> {
-    write_fec(rt, 0, 0x22A43C3)?;
-    write_fec(rt, 1, 0x05DFF66)?;
-    write_fec(rt, 2, 0x07171AB)?;
-    write_fec(rt, 3, 0x01957FD)
+    let rows = [0x22A43C3, 0x05DFF66, 0x07171AB, 0x01957FD];
+    write_blocks(rt, "table 54 block", 7, rows, |octets| Fec::of(octets))
 }
 
 fn write_fec_multiblock(
@@ -88,23 +63,17 @@ fn write_fec_multiblock(
     octets: &[u8],
     printed: u64,
 ) -> io::Result<()> {
-    write_row(
-        rt,
-        b"table 55 multiblock ",
-        row,
-        Fec::of(octets),
-        printed,
-        7,
-    )
+    let value = u64::from(Fec::of(octets));
+    text::write_row(rt, "table 55 multiblock", row, value, 7, printed, 7)
 }
 
 // The first bit alone, every bit, the last bit alone.
 pub(crate) fn write_fec_multiblocks(rt: &impl Print) -> io::Result<()> {
     let mut octets = [0u8; 256];
     octets[0] = 0x80;
-    write_fec_multiblock(rt, 0, &octets[..], 0x235011A)?;
+    write_fec_multiblock(rt, 0, &octets, 0x235011A)?;
     write_fec_multiblock(rt, 1, &[255u8; 256], 0x3C7FFE3)?;
     octets[0] = 0;
     octets[255] = 1;
-    write_fec_multiblock(rt, 2, &octets[..], 0x0220211)
+    write_fec_multiblock(rt, 2, &octets, 0x0220211)
 }

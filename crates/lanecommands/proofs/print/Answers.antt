@@ -1,18 +1,20 @@
 -- What is printed is the text of the messages, or the line of the refusal.
 use Rattle.std.proofs.Common.{arith}
-use Rattle.capture.proofs.Told.{messages-printed, refusal-printed}
+use Rattle.capture.proofs.Told.{messages-printed, refusal-fits, refusal-printed}
 use Rattle.lanecommands.specs.Output.{printed}
 use Rattle.lanecommands.proofs.print.Goals as goal
 
-pub returns-then-told-ne0 : goal.returns-then-told-ne0
+pub returns-in-Ok : goal.returns-in-Ok
 unfolding printed
-returns-then-told-ne0 c =
-    let told = c.messages-told in
-    let line = c.write_refusal-line in
-    refusal-printed c.args.octets.now c.args.text.now _ told.result told.ensures (omega (arith, c.requires)) c.if-told-ne0.true line.result _ line.ensures
+returns-in-Ok c = messages-printed c.args.octets.now c.args.text.now _ (omega (arith, c.requires)) c.in-Ok.count c.in-Ok.ensures
 
-pub returns : goal.returns
+pub unwrap-requires : goal.unwrap-requires
+unwrap-requires c =
+    let put = rw c.number.ensures at c.write_refusal.ensures in
+    refusal-fits c.args.octets.now c.args.text.now _ (omega (arith, c.requires)) c.in-Err.why c.in-Err.ensures c.write_refusal.result _ put
+
+pub returns-in-Err : goal.returns-in-Err
 unfolding printed
-returns c =
-    let told = c.messages-told in
-    messages-printed c.args.octets.now c.args.text.now _ told.result told.ensures (omega (arith, c.requires)) c.if-told-ne0.false
+returns-in-Err c =
+    let put = rw c.number.ensures at c.write_refusal.ensures in
+    refusal-printed c.args.octets.now c.args.text.now _ (omega (arith, c.requires)) c.in-Err.why c.in-Err.ensures c.write_refusal.result _ put _ c.unwrap.ensures
