@@ -2,7 +2,7 @@
 use mathlib.Core.Path.{◌≡◌}
 use mathlib.Core.Bool.{true, false, not}
 use mathlib.Core.List.{List}
-use Prim.Native.Nat.{ℕ, ◌+◌, ◌/◌, ◌≤◌, ◌<◌}
+use Prim.Native.Nat.{ℕ, ◌≤◌, ◌<◌}
 use native.Mathlib.Nat.{pos_of_ne-zero, div-le_of_le-mul}
 use native.Mathlib.Omega.{arith}
 use borrow.Author.Tests.{eqb-false, ltb-false, not-false}
@@ -44,17 +44,18 @@ module _ (n code : ℕ) (payload : List ℕ) (room : ℕ) (accepted : refusal_of
   short : length payload ≤ 7
   short = omega (arith, not-long, most-few code)
 
-  pub count-few : (length payload + n) / n ≤ 8
+  pub count-few : commands_for n (length payload) ≤ 8
+  unfolding commands_for
   count-few = div-le_of_le-mul n (omega (arith, short, channel))
 
-  pub count_fits : (length payload + n) / n ≤ room
-  unfolding commands_for
-  count_fits = ltb-false room ((length payload + n) / n) (not_so 7)
+  pub count_fits : commands_for n (length payload) ≤ room
+  count_fits = ltb-false room (commands_for n (length payload)) (not_so 7)
 
 -- ---- and what is answered to it
 
 module _ (mode code : ℕ) (payload old : List ℕ) (n : ℕ) (words : n ≡ channel_words mode) where
-  pub is-written : 0 ≡ refusal_of n code payload (length old) → (all : List ℕ) → all ≡ laid (list_from (command_of n code payload) 0 ((length payload + n) / n)) old
-      → done (record { refusal = 0; count = (length payload + n) / n }) all ≡ writing mode code payload old
-  unfolding writing written commands_for
-  is-written e all ea = rw (← words, ← e, ea)
+  pub is-written : 0 ≡ refusal_of n code payload (length old) → (count : ℕ) → count ≡ commands_for n (length payload) → (all : List ℕ)
+      → all ≡ laid (list_from (command_of n code payload) 0 count) old
+      → done (record { refusal = 0; count = count }) all ≡ writing mode code payload old
+  unfolding writing written
+  is-written e count ec all ea = rw (← words, ← e, ea, ec)

@@ -1,46 +1,48 @@
 -- What is true of every line of Table 51: clause 7.3.7.6. Assumes nothing.
-use mathlib.Core.Path.{◌≡◌, refl, sym, ap, ◌∙◌, subst}
-use mathlib.Core.Bool.{Bool, true, ◌&&◌, true≢false}
-use mathlib.Core.List.{List, ◌++◌}
+use mathlib.Core.Path.{◌≡◌, refl, sym, ap, ◌∙◌}
+use mathlib.Core.Bool.{true, true≢false}
+use mathlib.Core.List.{◌++◌}
 use Prim.Native.Nat.{ℕ, zero, suc, ◌+◌, ◌-◌, ◌≤◌, ◌<◌}
 use native.Mathlib.Decide.{dec_lt}
 use native.Mathlib.Omega.{arith}
-use borrow.Author.Tests.{le-leb, lt-leb, lt-ltb, le-ltb}
-use lib.Dec.{ltb, leb, lit≤}
-use lib.ListN.{get_or, replicate, get_or-replicate, get_or-append, get_or-eq_default}
+use lib.Dec.{lit≤}
+use lib.ListN.{get_or, take, replicate, get_or-replicate, get_or-append, get_or-eq_default}
 use lib.Seq.{get_or-append-add}
 use Rattle.commands.specs.declared.table51.Function.{Function}
 use Rattle.commands.specs.Table51.{undefined, user_defined, table51, function_of}
 
-abbrev pub any_number : Bool → Function
-any_number defined = record { defined = defined; fewest = 0; most = 7 }
-
--- the lines behind the first seven
-abbrev lines : List Function
-lines = replicate 9 undefined ++ replicate 16 user_defined
-
-behind : (code k : ℕ) → code ≡ 7 + k → any_number (leb 16 code && ltb code 32) ≡ get_or lines k undefined
-behind code k e = by (dec_lt k 9) (dec_lt k 25)
-  where
-    by : Dec (k < 9) → Dec (k < 25) → any_number (leb 16 code && ltb code 32) ≡ get_or lines k undefined
-    by (yes low) _ = rw (lt-leb 16 code (omega arith)) (sym (get_or-append (replicate 9 undefined) (replicate 16 user_defined) undefined k low ∙ get_or-replicate 9 k undefined undefined low))
-    by (no over) (yes low) =
-        rw (le-leb 16 code (omega arith), lt-ltb code 32 (omega arith))
-        (sym (ap (λ (i : ℕ). get_or lines i undefined) {x = k} {y = 9 + (k - 9)} (omega arith) ∙ get_or-append-add (replicate 9 undefined) (replicate 16 user_defined) (k - 9) undefined ∙ get_or-replicate 16 (k - 9) user_defined undefined (omega arith)))
-    by (no over) (no past) = rw (le-leb 16 code (omega arith), le-ltb code 32 (omega arith)) (sym (get_or-eq_default lines undefined {n = k} (omega arith)))
-
--- a code that has no number of words of its own
-pub others : (code : ℕ) → (code ≡ 0 → ⊥) → (code ≡ 1 → ⊥) → (code ≡ 2 → ⊥) → (code ≡ 3 → ⊥) → (code ≡ 4 → ⊥) → (code ≡ 5 → ⊥) → (code ≡ 6 → ⊥)
-    → any_number (leb 16 code && ltb code 32) ≡ function_of code
+-- a code that is not defined, below those of users and above them, and a user's
+pub reserved : (code : ℕ) → 7 ≤ code → code < 16 → undefined ≡ function_of code
 unfolding function_of
-others zero a b c d e f g = absurd (a refl)
-others (suc zero) a b c d e f g = absurd (b refl)
-others (suc (suc zero)) a b c d e f g = absurd (c refl)
-others (suc (suc (suc zero))) a b c d e f g = absurd (d refl)
-others (suc (suc (suc (suc zero)))) a b c d e f g = absurd (e refl)
-others (suc (suc (suc (suc (suc zero))))) a b c d e f g = absurd (f refl)
-others (suc (suc (suc (suc (suc (suc zero)))))) a b c d e f g = absurd (g refl)
-others (suc (suc (suc (suc (suc (suc (suc k))))))) a b c d e f g = behind (suc (suc (suc (suc (suc (suc (suc k))))))) k (omega arith)
+reserved code low high =
+    sym
+    (ap (λ (i : ℕ). get_or table51 i undefined) {x = code} {y = 7 + (code - 7)} (omega arith)
+    ∙ get_or-append-add (take 7 table51) (replicate 9 undefined ++ replicate 16 user_defined) (code - 7) undefined
+    ∙ get_or-append (replicate 9 undefined) (replicate 16 user_defined) undefined (code - 7) (omega arith)
+    ∙ get_or-replicate 9 (code - 7) undefined undefined (omega arith))
+
+pub past : (code : ℕ) → 32 ≤ code → undefined ≡ function_of code
+unfolding function_of
+past code high = sym (get_or-eq_default table51 undefined {n = code} high)
+
+pub users : (code : ℕ) → 16 ≤ code → code < 32 → user_defined ≡ function_of code
+unfolding function_of
+users code low high =
+    sym
+    (ap (λ (i : ℕ). get_or table51 i undefined) {x = code} {y = 16 + (code - 16)} (omega arith)
+    ∙ get_or-append-add (take 16 table51) (replicate 16 user_defined) (code - 16) undefined
+    ∙ get_or-replicate 16 (code - 16) user_defined undefined (omega arith))
+
+seven-most : (code : ℕ) → 7 ≤ code → (function_of code).most ≤ 7
+seven-most code low = by (dec_lt code 16) (dec_lt code 32)
+  where
+    line : (f : Function) → f.most ≡ 7 → f ≡ function_of code → (function_of code).most ≤ 7
+    line f most e = omega (arith, most, ap (λ (g : Function). g.most) e)
+
+    by : Dec (code < 16) → Dec (code < 32) → (function_of code).most ≤ 7
+    by (yes below) _ = line undefined refl (reserved code low below)
+    by (no over) (yes below) = line user_defined refl (users code (omega arith) below)
+    by (no _) (no over) = line undefined refl (past code (omega arith))
 
 -- no message has more words than the clause lets any have
 pub most-few : (code : ℕ) → (function_of code).most ≤ 7
@@ -52,7 +54,7 @@ most-few (suc (suc (suc zero))) = lit≤ tt
 most-few (suc (suc (suc (suc zero)))) = lit≤ tt
 most-few (suc (suc (suc (suc (suc zero))))) = lit≤ tt
 most-few (suc (suc (suc (suc (suc (suc zero)))))) = lit≤ tt
-most-few (suc (suc (suc (suc (suc (suc (suc k))))))) = subst (λ (f : Function). f.most ≤ 7) (behind (7 + k) k refl) (lit≤ tt)
+most-few (suc (suc (suc (suc (suc (suc (suc k))))))) = seven-most (suc (suc (suc (suc (suc (suc (suc k))))))) (omega arith)
 
 -- a code that is defined has five bits
 pub defined-small : (code : ℕ) → (function_of code).defined ≡ true → code < 32

@@ -10,7 +10,7 @@ use answers::Refusal;
 use events::Read;
 use frame::modes;
 use words::Words;
-use writing::Given;
+use writing::{Given, commands_for};
 
 pub mod events;
 mod reading;
@@ -32,13 +32,13 @@ pub fn channel_words(mode: u8) -> usize
 }
 
 // The commands of a message, over the start of `commands`: how many.
-#[tactic(auto, unfolding(crate::specs::Writing::writing, crate::specs::Writing::written, crate::specs::Writing::commands_for))]
+#[tactic(auto, unfolding(crate::specs::Writing::writing, crate::specs::Writing::written))]
 pub fn write(mode: u8, code: u8, payload: &[u8], commands: &mut [u32]) -> Result<usize, Refusal>
     ensures { done (counted result) commands.new ≡ writing mode code payload.now commands.old }
 {
     let each = channel_words(mode);
     refusal::of_message(each, code, payload, commands.len())?;
-    let count = (payload.len() + each) / each;
+    let count = commands_for(each, payload.len());
     let message = Given {
         each,
         code,

@@ -35,7 +35,7 @@ fn complete(code: u8, count: usize, spoilt: bool) -> bool
     if count == function.most {
         return true;
     }
-    (function.fewest <= count) & !spoilt
+    function.fewest <= count && !spoilt
 }
 
 // Where nothing begins any more.

@@ -5,6 +5,7 @@ ghost use Rattle.bits.specs.Bounds.{all_below};
 ghost use Rattle.commands.specs.Writing.{refusal_of as message_refusal};
 ghost use Rattle.commands.specs.Reading.{refusal_of as list_refusal};
 
+use crate::writing::commands_for;
 use crate::{channel_words, table51};
 use answers::Refusal;
 use frame::modes;
@@ -17,7 +18,7 @@ fn payload_fits(payload: &[u8]) -> bool
 }
 
 // 1, 6, 10, 11, and 7 of what these let pass, for commands of `each` words and a list of `room` commands.
-#[tactic(auto, unfolding(crate::specs::Writing::refusal_of, crate::specs::Writing::commands_for, bits::specs::Refusals::refusal_by))]
+#[tactic(auto, unfolding(crate::specs::Writing::refusal_of, bits::specs::Refusals::refusal_by))]
 pub(crate) fn of_message(each: usize, code: u8, payload: &[u8], room: usize) -> Result<(), Refusal>
     requires { each ≤ 3 }
     ensures { refused result ≡ message_refusal each code payload.now room }
@@ -38,7 +39,7 @@ pub(crate) fn of_message(each: usize, code: u8, payload: &[u8], room: usize) -> 
     if !function.defined {
         return Err(Refusal::Code);
     }
-    if (payload.len() + each) / each > room {
+    if commands_for(each, payload.len()) > room {
         return Err(Refusal::Room);
     }
     Ok(())

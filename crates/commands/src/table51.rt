@@ -45,6 +45,7 @@ pub(crate) fn function_of(code: u8) -> Function
         4 => exactly(5),
         5 => exactly(0),
         6 => exactly(0),
-        _ => any_number((16 <= code) & (code < 32)),
+        16..=31 => any_number(true),
+        _ => any_number(false),
     }
 }

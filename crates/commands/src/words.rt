@@ -46,7 +46,7 @@ fn said(j: usize, word: u8) -> Word
     if word >= 32 {
         return Word::Payload(word - 32);
     }
-    if (word == 0) & (j > 0) {
+    if word == 0 && j > 0 {
         return Word::Padding;
     }
     Word::Header(word)

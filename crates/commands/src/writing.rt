@@ -1,9 +1,9 @@
 // A message as commands: clauses 7.3.7.3 and 7.3.7.4; request 6.
-ghost use Rattle.std.specs.Prelude.{◌≡◌, true, ◌≤◌, ◌<◌, length};
+ghost use Rattle.std.specs.Prelude.{◌≡◌, true, ◌+◌, ◌≤◌, ◌<◌, ◌^◌, length};
 ghost use Rattle.bits.specs.Bounds.{all_below};
 ghost use Rattle.bits.specs.Order.{list_from};
 ghost use Rattle.commands.specs.Words.{together};
-ghost use Rattle.commands.specs.Writing.{message_word, command_of};
+ghost use Rattle.commands.specs.Writing.{message_word, command_of, commands_for};
 
 use crate::words;
 
@@ -16,6 +16,15 @@ pub(crate) struct Given<'a> {
     ghost few: { each ≤ 3 },
     ghost small: { code < 32 },
     ghost fits: { all_below 32 payload.now ≡ true },
+}
+
+// How many commands a header and so much payload fill.
+#[tactic(auto, unfolding(crate::specs::Writing::commands_for))]
+pub(crate) fn commands_for(each: usize, words: usize) -> usize
+    requires { (1 ≤ each) × (words + each < 2 ^ 64) }
+    ensures { result ≡ commands_for each words }
+{
+    (words + each) / each
 }
 
 impl Given<'_> {

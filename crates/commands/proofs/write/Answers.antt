@@ -1,5 +1,5 @@
 use mathlib.Core.Path.{sym, ap, ◌∙◌}
-use Prim.Native.Nat.{◌+◌, ◌/◌}
+use Prim.Native.Nat.{◌≤◌}
 use native.Mathlib.Omega.{arith}
 use lib.ListN.{length}
 use Rattle.std.proofs.lemmas.List.{length-take-le}
@@ -13,13 +13,10 @@ use Rattle.commands.proofs.write.Goals as goal
 pub of_message-requires : goal.of_message-requires
 of_message-requires c = rw c.channel_words-each.ensures (words-few c.args.mode)
 
-pub overflow_add-count : goal.overflow_add-count
-overflow_add-count c = omega (arith, words-few c.args.mode)
-
-pub nonzero_div-count : goal.nonzero_div-count
-nonzero_div-count c =
+pub commands_for-count-requires : goal.commands_for-count-requires
+commands_for-count-requires c =
     let a = c.args in
-    channel c.channel_words-each.result a.code a.payload.now (length a.commands.now) (sym c.in_ok-of_message.ensures)
+    (channel c.channel_words-each.result a.code a.payload.now (length a.commands.now) (sym c.in_ok-of_message.ensures), omega (arith, words-few a.mode))
 
 pub invariant_of-message : goal.invariant_of-message
 invariant_of-message c =
@@ -31,30 +28,31 @@ invariant_of-message c =
 pub slice_bounds-put-end : goal.slice_bounds-put-end
 slice_bounds-put-end c =
     let a = c.args in
-    count_fits c.channel_words-each.result a.code a.payload.now (length a.commands.now) (sym c.in_ok-of_message.ensures)
+    rw c.commands_for-count.ensures (count_fits c.channel_words-each.result a.code a.payload.now (length a.commands.now) (sym c.in_ok-of_message.ensures))
 
 pub slice_bounds-put-end-2 : goal.slice_bounds-put-end-2
 slice_bounds-put-end-2 c =
     let a = c.args in
-    let n = c.channel_words-each.result in
-    sym (length-take-le ((length a.payload.now + n) / n) a.commands.now (count_fits n a.code a.payload.now (length a.commands.now) (sym c.in_ok-of_message.ensures)))
+    let within = count_fits c.channel_words-each.result a.code a.payload.now (length a.commands.now) (sym c.in_ok-of_message.ensures) in
+    rw c.commands_for-count.ensures (sym (length-take-le _ a.commands.now within))
 
 pub put-requires : goal.put-requires
 put-requires c =
     let a = c.args in
     let n = c.channel_words-each.result in
     let ok = sym c.in_ok-of_message.ensures in
-    let long = length-take-le ((length a.payload.now + n) / n) a.commands.now (count_fits n a.code a.payload.now (length a.commands.now) ok) in
-    omega (arith, long, count-few n a.code a.payload.now (length a.commands.now) ok)
+    let long = length-take-le _ a.commands.now (count_fits n a.code a.payload.now (length a.commands.now) ok) in
+    rw c.commands_for-count.ensures (omega (arith, long, count-few n a.code a.payload.now (length a.commands.now) ok))
 
 pub returns : goal.returns
 returns c =
     let a = c.args in
     let words = c.channel_words-each in
     let n = words.result in
-    let count = (length a.payload.now + n) / n in
+    let count = c.commands_for-count.result in
     let ok = c.in_ok-of_message.ensures in
-    let long = length-take-le count a.commands.now (count_fits n a.code a.payload.now (length a.commands.now) (sym ok)) in
+    let e = c.commands_for-count.ensures in
+    let within : count ≤ length a.commands.now = rw e (count_fits n a.code a.payload.now (length a.commands.now) (sym ok)) in
     let command = command_of n a.code a.payload.now in
-    is-written a.mode a.code a.payload.now a.commands.now n words.ensures ok _
-    (laid-first command 0 count a.commands.now _ (c.put.ensures ∙ ap (list_from command 0) long))
+    is-written a.mode a.code a.payload.now a.commands.now n words.ensures ok count e _
+    (laid-first command 0 count a.commands.now _ (c.put.ensures ∙ ap (list_from command 0) (length-take-le count a.commands.now within)))
