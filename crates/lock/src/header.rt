@@ -6,7 +6,7 @@ ghost use Rattle.lock.specs.Ranges.{header_in_range};
 use crate::HeaderLock;
 use frame::headers::Header;
 
-fn hunting(offset: u32, run: u32) -> HeaderLock
+pub(crate) fn hunting(offset: u32, run: u32) -> HeaderLock
     ensures { result ≡ header_hunting offset run }
 {
     HeaderLock {

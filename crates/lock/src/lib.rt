@@ -76,14 +76,10 @@ impl Lock {
     pub fn fresh() -> Lock
         ensures { result ≡ fresh }
     {
-        let header = HeaderLock {
-            locked: false,
-            offset: 0,
-            run: 0,
-            bad: 0,
-        };
-        let extended = ExtendedLock::fresh();
-        Lock { header, extended }
+        Lock {
+            header: header::hunting(0, 0),
+            extended: ExtendedLock::fresh(),
+        }
     }
 }
 
@@ -130,8 +126,7 @@ fn width_of(mode: u8) -> u32
 
 // What a step is refused for: the lowest number is found first.
 #[tactic(auto, unfolding(bits::specs::Refusals::refusal_by))]
-fn check(mode: u8, e: u32, width: u32, lock: Lock, header: u8) -> Result<(), Refusal>
-    requires { width ≡ width_of mode }
+fn check(mode: u8, e: u32, lock: Lock, header: u8) -> Result<(), Refusal>
     ensures { refused result ≡ refusal_by (refusals mode e lock header) }
 {
     if !known(mode) {
@@ -140,7 +135,7 @@ fn check(mode: u8, e: u32, width: u32, lock: Lock, header: u8) -> Result<(), Ref
     if !extent_fits(e) {
         return Err(Refusal::Extent);
     }
-    if !is_accepted(width, 32 * e, lock) {
+    if !is_accepted(width_of(mode), 32 * e, lock) {
         return Err(Refusal::State);
     }
     if header > 3 {
@@ -154,8 +149,8 @@ fn check(mode: u8, e: u32, width: u32, lock: Lock, header: u8) -> Result<(), Ref
 pub fn step(mode: u8, e: u32, lock: Lock, header: u8) -> Result<Lock, Refusal>
     ensures { step_answer lock result ≡ stepped mode e lock header }
 {
+    check(mode, e, lock, header)?;
     let width = width_of(mode);
-    check(mode, e, width, lock, header)?;
     let header = headers::read(header);
     Ok(lock_next(width, 32 * e, lock, header))
 }

@@ -76,7 +76,7 @@ pub fn receive(
         patterns: patterns.len(),
         invalid: invalid.len(),
     };
-    refusal::check(mode, row.most, numbers, state, lane.len(), lengths)?;
+    refusal::check(mode, state, lane.len(), lengths)?;
     let size = numbers.octets;
     let layout = Layout { row, size };
     let begun = run::begin(layout, state, lane);

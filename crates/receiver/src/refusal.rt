@@ -1,13 +1,12 @@
 // What is refused, lowest number first: document 01, "Numbers of refusal".
 ghost use Rattle.std.specs.Prelude.{◌≡◌, ◌≤◌};
 ghost use Rattle.answers.specs.Numbers.{refused};
-ghost use Rattle.frame.specs.Modes.{row, numbers_of, most_of_all};
+ghost use Rattle.frame.specs.Modes.{most_of_all};
 ghost use Rattle.receiver.specs.Refusal.{as_fresh, state_fits, releases, room_for, refusal_of};
 
 use crate::Receiver;
 use answers::Refusal;
 use frame::modes;
-use frame::modes::Numbers;
 
 // Whether all but the waiting flag is as in a fresh state.
 fn as_fresh(state: Receiver) -> bool
@@ -69,17 +68,11 @@ impl Lengths {
 
 // The lowest refusal that applies, by the state, the length of the lane and those of the lent buffers.
 #[tactic(auto, unfolding(crate::specs::Refusal::refusal_of, bits::specs::Refusals::refusal_by))]
-pub(crate) fn check(
-    mode: u8,
-    most: usize,
-    numbers: Numbers,
-    state: Receiver,
-    lane: usize,
-    lengths: Lengths,
-) -> Result<(), Refusal>
-    requires { (most ≡ (row mode).most) × (numbers ≡ numbers_of (row mode)) }
+pub(crate) fn check(mode: u8, state: Receiver, lane: usize, lengths: Lengths) -> Result<(), Refusal>
     ensures { refused result ≡ refusal_of mode state lane lengths.octets lengths.statuses lengths.commands lengths.places lengths.patterns lengths.invalid }
 {
+    let row = modes::row_of(mode);
+    let numbers = modes::numbers_of(row);
     if !modes::known(mode) {
         return Err(Refusal::Mode);
     }
@@ -91,7 +84,7 @@ pub(crate) fn check(
         return Err(Refusal::Length);
     }
     let n = lane / size;
-    if n > most {
+    if n > row.most {
         return Err(Refusal::Count);
     }
     let k = releases(state.waiting, n);
