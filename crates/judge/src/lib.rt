@@ -2,12 +2,13 @@
 // request 5.
 #![tactic(auto)]
 
+ghost use Rattle.std.specs.Option.{option_map_or};
 ghost use Rattle.std.specs.Prelude.{◌≡◌, ℕ, ◌<◌, ◌≤◌, length, get_or};
 ghost use Rattle.bits.specs.Order.{bit_at, number, laid_at};
 ghost use Rattle.scrambler.specs.Scrambling.{descrambled};
 ghost use Rattle.parity.specs.Codeword.{multiblock_parity};
 ghost use Rattle.frame.specs.Modes.{code};
-ghost use Rattle.judge.specs.Judge.{status_of, place_of, pattern_of, by_burst, verdict_of, judged, mended, released_status, trusted_after};
+ghost use Rattle.judge.specs.Judge.{status_of, place_of, pattern_of, verdict_of, judged, mended, released_status, trusted_after};
 
 use frame::modes::Sync;
 use parity::{Burst, Crc3, Crc12, Fec};
@@ -33,24 +34,29 @@ impl Verdict {
         }
     }
 
+    // The burst that was flipped back.
+    fn burst(self) -> Option<Burst>
+        ensures places { option_map_or (λ burst. burst.place) result 0 ≡ place_of self }
+        ensures patterns { option_map_or (λ burst. burst.pattern) result 0 ≡ pattern_of self }
+    {
+        match self {
+            Verdict::Repaired(burst) => Some(burst),
+            Verdict::Agrees | Verdict::Failed => None,
+        }
+    }
+
     // Where the burst starts; 0 where there is none.
     pub fn place(self) -> u16
         ensures { result ≡ place_of self }
     {
-        match self {
-            Verdict::Repaired(burst) => burst.place,
-            Verdict::Agrees | Verdict::Failed => 0,
-        }
+        self.burst().map_or(0, |burst| burst.place)
     }
 
     // The burst's bits; 0 where there is none.
     pub fn pattern(self) -> u16
         ensures { result ≡ pattern_of self }
     {
-        match self {
-            Verdict::Repaired(burst) => burst.pattern,
-            Verdict::Agrees | Verdict::Failed => 0,
-        }
+        self.burst().map_or(0, |burst| burst.pattern)
     }
 }
 
@@ -63,16 +69,6 @@ pub struct Released {
     pub trusted: bool,
 }
 
-// A burst that was found, or none.
-fn by_burst(burst: Option<Burst>) -> Verdict
-    ensures { result ≡ by_burst burst }
-{
-    match burst {
-        Some(burst) => Verdict::Repaired(burst),
-        None => Verdict::Failed,
-    }
-}
-
 // By the difference of the two parities. A burst is looked for only where they differ, and only with FEC.
 #[tactic(auto, unfolding(crate::specs::Judge::verdict_of))]
 fn verdict_of(sync: Sync, difference: u32) -> Verdict
@@ -82,7 +78,7 @@ fn verdict_of(sync: Sync, difference: u32) -> Verdict
         return Verdict::Agrees;
     }
     match sync {
-        Sync::Fec => by_burst(Fec::burst(difference)),
+        Sync::Fec => Fec::burst(difference).map_or(Verdict::Failed, Verdict::Repaired),
         Sync::Crc12 | Sync::Crc3 | Sync::Command => Verdict::Failed,
     }
 }

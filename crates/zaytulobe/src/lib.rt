@@ -14,6 +14,7 @@ ghost use Rattle.zaytulobe.specs.Sending.{as_answer};
 use counts::CountedNumbers;
 use sender::Sender;
 
+mod bools;
 pub mod counts;
 pub mod locking;
 pub mod locks;

@@ -1,8 +1,11 @@
-// The locks' state as numbers, for callers in C, who may hand any number where a bool or a phase is meant: whether numbers fit, the state that
-// they stand for, and the numbers of a state. Clause 7.6; document 01, "Lock tables" and "Numbers of refusal".
-ghost use Rattle.std.specs.Prelude.{◌≡◌};
-ghost use Rattle.zaytulobe.specs.Locks.{fit, phase_of, phase_number, read, as_numbers};
+// The locks' state as numbers, for callers in C, who may hand any number where a bool or a phase is meant: the state that numbers stand for, if
+// they fit, and the numbers of a state. Clause 7.6; document 01, "Lock tables" and "Numbers of refusal".
+ghost use Rattle.std.specs.Prelude.{◌≡◌, Ok, Err, leb};
+ghost use Rattle.answers.specs.declared.Refusal.TheVariants.{State};
+ghost use Rattle.bits.specs.Choice.{pick};
+ghost use Rattle.zaytulobe.specs.Locks.{phase_of, phase_number, read, as_numbers};
 
+use crate::bools::bool_of;
 use answers::Refusal;
 use lock::{ExtendedLock, HeaderLock, Lock, Phase};
 
@@ -37,22 +40,16 @@ pub struct LockNumbers {
     pub extended: ExtendedNumbers,
 }
 
-// Whether the bool is 0 or 1 and the phase 0, 1 or 2.
-#[tactic(auto, unfolding(crate::specs::Locks::fit))]
-fn fit(given: LockNumbers) -> bool
-    ensures { result ≡ fit given }
-{
-    given.header.locked <= 1 && given.extended.phase <= 2
-}
-
+// The phase that a number stands for, refused where it is none.
 #[tactic(auto, unfolding(crate::specs::Locks::phase_of))]
-fn phase_of(number: u32) -> Phase
-    ensures { result ≡ phase_of number }
+fn phase_of(number: u32) -> Result<Phase, Refusal>
+    ensures { result ≡ pick (leb number 2) (Ok (phase_of number)) (Err State) }
 {
     match number {
-        2 => Phase::Locked,
-        1 => Phase::Following,
-        _ => Phase::Hunting,
+        0 => Ok(Phase::Hunting),
+        1 => Ok(Phase::Following),
+        2 => Ok(Phase::Locked),
+        _ => Err(Refusal::State),
     }
 }
 
@@ -72,22 +69,19 @@ impl TryFrom<LockNumbers> for Lock {
 
     ghost try_from_gives = { λ given result. result ≡ read given };
 
-    #[tactic(auto, unfolding(crate::specs::Locks::read, crate::specs::Locks::state_of))]
+    #[tactic(auto, unfolding(crate::specs::Locks::read, crate::specs::Locks::fit, crate::specs::Locks::state_of))]
     fn try_from(given: LockNumbers) -> Result<Lock, Refusal> {
-        if !fit(given) {
-            return Err(Refusal::State);
-        }
         let header = given.header;
         let extended = given.extended;
         Ok(Lock {
             header: HeaderLock {
-                locked: header.locked == 1,
+                locked: bool_of(header.locked)?,
                 offset: header.offset,
                 run: header.run,
                 bad: header.bad,
             },
             extended: ExtendedLock {
-                phase: phase_of(extended.phase),
+                phase: phase_of(extended.phase)?,
                 seen: extended.seen,
                 headers: extended.headers,
                 good: extended.good,

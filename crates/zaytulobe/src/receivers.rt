@@ -1,8 +1,9 @@
-// A receiver's state as numbers, for callers in C, who may hand any number where a bool is meant: whether numbers fit, the state that they
-// stand for, and the numbers of a state. Document 01, "What the receiver releases" and "Numbers of refusal".
+// A receiver's state as numbers, for callers in C, who may hand any number where a bool is meant: the state that numbers stand for, if they fit,
+// and the numbers of a state. Document 01, "What the receiver releases" and "Numbers of refusal".
 ghost use Rattle.std.specs.Prelude.{◌≡◌};
-ghost use Rattle.zaytulobe.specs.Receivers.{fit, read, as_numbers};
+ghost use Rattle.zaytulobe.specs.Receivers.{read, as_numbers};
 
+use crate::bools::bool_of;
 use answers::Refusal;
 use receiver::Receiver;
 
@@ -22,31 +23,20 @@ pub struct ReceiverNumbers {
     pub failed: u32,
 }
 
-// Whether both bools are 0 or 1.
-#[tactic(auto, unfolding(crate::specs::Receivers::fit))]
-fn fit(given: ReceiverNumbers) -> bool
-    ensures { result ≡ fit given }
-{
-    given.waiting <= 1 && given.trusted <= 1
-}
-
 // The state that numbers stand for, if they fit.
 impl TryFrom<ReceiverNumbers> for Receiver {
     type Error = Refusal;
 
     ghost try_from_gives = { λ given result. result ≡ read given };
 
-    #[tactic(auto, unfolding(crate::specs::Receivers::read, crate::specs::Receivers::state_of))]
+    #[tactic(auto, unfolding(crate::specs::Receivers::read, crate::specs::Receivers::fit, crate::specs::Receivers::state_of))]
     fn try_from(given: ReceiverNumbers) -> Result<Receiver, Refusal> {
-        if !fit(given) {
-            return Err(Refusal::State);
-        }
         let octets = given.octets;
         Ok(Receiver {
-            waiting: given.waiting == 1,
+            waiting: bool_of(u32::from(given.waiting))?,
             octets,
             history: given.history,
-            trusted: given.trusted == 1,
+            trusted: bool_of(u32::from(given.trusted))?,
             command: given.command,
             invalid: given.invalid,
             own: given.own,
