@@ -1,9 +1,12 @@
 // Numbers and lines as text: document 01, "Capture and listing". Each is written at a place where there is room for it, and answers the place after
 // it. Where there is no room it is counted all the same, so that the length of a text is what its writer answers over no text at all.
-ghost use Rattle.std.specs.Prelude.{◌≡◌};
+ghost use Rattle.std.specs.Prelude.{◌≡◌, List, ℕ};
+ghost use Rattle.answers.specs.Numbers.{counted};
 ghost use Rattle.text.specs.Text.{decimal, sync_name, shape_name, name_of, head_line, release_line};
+ghost use Rattle.text.specs.Writing.{done, room_over};
 ghost use Rattle.text.specs.inner.Wrote.{Wrote, field};
 
+use answers::Refusal;
 use frame::modes;
 use frame::modes::{Row, Sync};
 
@@ -25,6 +28,20 @@ pub(crate) fn put_decimal(text: &mut [u8], at: usize, n: u32) -> usize
     }
     let next = put_decimal(text, at, n / 10);
     put(text, next, &[b'0' + (n % 10) as u8])
+}
+
+// What the writer puts over the start of `text`. It is measured first, over no text: a text that is too short stays as it was.
+pub(crate) fn put_where_room<F: Fn(&mut [u8]) -> usize>(
+    text: &mut [u8],
+    writer: F,
+) -> Result<usize, Refusal>
+    requires { F.IsAlwaysCallable writer }
+    ensures { (new : List ℕ) → ((old : _) (end : ℕ) (after : _) → F.post writer old end after → Wrote new 0 old.now end after.now) → done (counted result) text.new ≡ room_over new text.old }
+{
+    if writer(&mut []) > text.len() {
+        return Err(Refusal::Room);
+    }
+    Ok(writer(text))
 }
 
 // A number, and the octet that ends it.

@@ -63,10 +63,7 @@ fn put_refusal(text: &mut [u8], refusal: u8) -> usize
 pub fn write_refusal(text: &mut [u8], refusal: u8) -> Result<usize, Refusal>
     ensures { done (counted result) text.new ≡ room_over (refused_line refusal) text.old }
 {
-    if put_refusal(&mut [], refusal) > text.len() {
-        return Err(Refusal::Room);
-    }
-    Ok(put_refusal(text, refusal))
+    fields::put_where_room(text, |text| put_refusal(text, refusal))
 }
 
 // The header line and a line for each event of these commands, over the start of `text`.

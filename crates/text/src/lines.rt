@@ -50,9 +50,6 @@ impl Releases<'_> {
     ) -> Result<usize, Refusal>
         ensures { done (counted result) text.new ≡ room_over (text_of row e received self.now.statuses.now self.now.places.now self.now.patterns.now) text.old }
     {
-        if self.put_all(&mut [], row, e, received) > text.len() {
-            return Err(Refusal::Room);
-        }
-        Ok(self.put_all(text, row, e, received))
+        fields::put_where_room(text, |text| self.put_all(text, row, e, received))
     }
 }

@@ -103,9 +103,6 @@ impl Commands<'_> {
     pub(crate) fn put(&self, text: &mut [u8], e: u32, received: u32) -> Result<usize, Refusal>
         ensures { done (counted result) text.new ≡ room_over (messages_text self.now.mode e received self.now.commands.now) text.old }
     {
-        if self.put_all(&mut [], e, received) > text.len() {
-            return Err(Refusal::Room);
-        }
-        Ok(self.put_all(text, e, received))
+        fields::put_where_room(text, |text| self.put_all(text, e, received))
     }
 }
