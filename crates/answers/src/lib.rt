@@ -1,8 +1,10 @@
 // What a call answers: a refusal with its number, or how far it came. Document 01, "Numbers of refusal"; of 10 and 11 request 6.
 #![tactic(auto)]
 
-ghost use Rattle.std.specs.Prelude.{◌≡◌};
-ghost use Rattle.answers.specs.Numbers.{number};
+ghost use Rattle.std.specs.Prelude.{◌≡◌, ℕ, Result, ⊤};
+ghost use Rattle.answers.specs.declared.Refusal.{Refusal};
+ghost use Rattle.answers.specs.declared.Ran.{Ran};
+ghost use Rattle.answers.specs.Numbers.{number, refused, counted, answered};
 
 use std::error::Error;
 use std::fmt;
@@ -57,3 +59,12 @@ pub struct Ran<S> {
     pub count: usize,
     pub state: S,
 }
+
+// No two answers are the same in numbers: where a clause says what an answer is in numbers, that leaves one answer.
+#[tactic(auto, using(crate::proofs::Numbers::number_one, crate::proofs::Numbers::refused_one, crate::proofs::Numbers::counted_one, crate::proofs::Numbers::answered_one))]
+fn apart<S>()
+    ensures refusals { (a b : Refusal) → number a ≡ number b → a ≡ b }
+    ensures checks { (a b : Result ⊤ Refusal) → refused a ≡ refused b → a ≡ b }
+    ensures counts { (a b : Result ℕ Refusal) → counted a ≡ counted b → a ≡ b }
+    ensures runs { (state : S) (a b : Result (Ran S) Refusal) → answered state a ≡ answered state b → a ≡ b }
+{}

@@ -15,3 +15,4 @@ pub mod Back
 pub mod Within
 pub mod OneEncoding
 pub mod Promised
+pub mod OneAnswer

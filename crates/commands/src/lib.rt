@@ -1,10 +1,12 @@
 // Command words and messages, written and read: clauses 7.3.7 and 7.6.3; request 6.
 #![tactic(auto)]
 
-ghost use Rattle.std.specs.Prelude.{◌≡◌};
+ghost use Rattle.std.specs.Prelude.{◌≡◌, ℕ, Result};
+ghost use Rattle.answers.specs.declared.Refusal.{Refusal};
 ghost use Rattle.answers.specs.Numbers.{counted};
 ghost use Rattle.commands.specs.Writing.{channel_words, done, writing};
 ghost use Rattle.commands.specs.Reading.{read_as, reading};
+ghost use Rattle.commands.specs.declared.events.Read.{Read};
 
 use answers::Refusal;
 use events::Read;
@@ -60,3 +62,9 @@ pub fn read(mode: u8, commands: &[u32], from: usize) -> Result<Read, Refusal>
     };
     Ok(words.event_from(from))
 }
+
+// No two answers of a read are the same in numbers.
+#[tactic(auto, using(crate::proofs::OneAnswer::reading_one))]
+fn apart()
+    ensures { (from : ℕ) (a b : Result Read Refusal) → read_as from a ≡ read_as from b → a ≡ b }
+{}

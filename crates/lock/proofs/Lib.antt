@@ -12,3 +12,4 @@ pub mod Window
 pub mod Matches
 pub mod HeaderRows
 pub mod ExtendedRows
+pub mod OneAnswer

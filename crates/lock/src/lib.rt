@@ -1,13 +1,15 @@
 // The two locks of a receiver: on headers, and on extended multiblocks. Clause 7.6; document 01, "Lock tables".
 #![tactic(auto)]
 
-ghost use Rattle.std.specs.Prelude.{◌≡◌, true};
+ghost use Rattle.std.specs.Prelude.{◌≡◌, true, Result};
+ghost use Rattle.answers.specs.declared.Refusal.{Refusal};
 ghost use Rattle.answers.specs.Numbers.{refused};
 ghost use Rattle.bits.specs.Refusals.{refusal_by};
 ghost use Rattle.lock.specs.ExtendedTable.{fresh_extended};
 ghost use Rattle.lock.specs.Table.{fresh, extended_after, lock_step};
 ghost use Rattle.lock.specs.Ranges.{extended_in_range, accepted};
 ghost use Rattle.lock.specs.Refusals.{width_of, refusals, step_answer, stepped};
+ghost use Rattle.lock.specs.declared.Lock.{Lock};
 
 use answers::Refusal;
 use frame::headers;
@@ -154,3 +156,9 @@ pub fn step(mode: u8, e: u32, lock: Lock, header: u8) -> Result<Lock, Refusal>
     let header = headers::read(header);
     Ok(lock_next(width, 32 * e, lock, header))
 }
+
+// No two answers of a step are the same in numbers.
+#[tactic(auto, using(crate::proofs::OneAnswer::stepped_one))]
+fn apart()
+    ensures { (lock : Lock) (a b : Result Lock Refusal) → step_answer lock a ≡ step_answer lock b → a ≡ b }
+{}

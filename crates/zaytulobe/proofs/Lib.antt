@@ -1,2 +1,3 @@
 -- Laws of states as numbers, that each stands for one state.
 pub mod Back
+pub mod OneAnswer

@@ -8,6 +8,8 @@ ghost use Rattle.text.specs.Writing.{done as list_done};
 ghost use Rattle.capture.specs.Listing.{listed};
 ghost use Rattle.capture.specs.Messages.{told};
 ghost use Rattle.zaytulobe.specs.Counts.{as_counted};
+ghost use Rattle.zaytulobe.specs.declared.counts.CountedNumbers.{CountedNumbers};
+ghost use Rattle.zaytulobe.specs.declared.SentNumbers.{SentNumbers};
 ghost use Rattle.zaytulobe.specs.Running.{longest_numbers};
 ghost use Rattle.zaytulobe.specs.Sending.{as_answer};
 
@@ -110,3 +112,10 @@ pub extern "C" fn zaytulobe_messages(capture: &[u8], text: &mut [u8]) -> Counted
 {
     CountedNumbers::from(capture::messages(capture, text))
 }
+
+// No two answers for callers in C are the same in the answers that they stand for.
+#[tactic(auto, using(crate::proofs::OneAnswer::counted_numbers_one, crate::proofs::OneAnswer::sent_numbers_one))]
+fn apart()
+    ensures counts { (a b : CountedNumbers) → as_counted a ≡ as_counted b → a ≡ b }
+    ensures sent { (a b : SentNumbers) → as_answer a ≡ as_answer b → a ≡ b }
+{}
