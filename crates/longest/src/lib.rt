@@ -75,5 +75,5 @@ pub fn longest_run<'a>(octets: &'a [u8], statuses: &[u8]) -> Result<&'a [u8], Re
 pub fn part<'a>(octets: &'a [u8], statuses: &[u8]) -> &'a [u8]
     ensures { result.now ≡ part_of octets.now statuses.now }
 {
-    longest_run(octets, statuses).unwrap_or(&[])
+    longest_run(octets, statuses).unwrap_or(&octets[0..0])
 }
