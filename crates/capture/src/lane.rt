@@ -25,6 +25,8 @@ struct Releases {
     patterns: [u16; modes::MOST],
 }
 
+// Taken into both of its callers, which take the answer apart: whole it would be zeroed and copied.
+#[inline(always)]
 fn receive(mode: u8, lane: &[u8]) -> Releases
     requires { Receivable mode lane.now }
     ensures received { result.received ≡ received_in (row mode) lane.now }
@@ -59,28 +61,39 @@ fn receive(mode: u8, lane: &[u8]) -> Releases
     }
 }
 
-// The listing of a lane of whole multiblocks, over the start of `text`.
+// The listing of a lane of whole multiblocks, over the start of `text`. A capture that is refused never makes room for the lists.
+#[inline(never)]
 pub(crate) fn list(text: &mut [u8], opened: Opened) -> Result<usize, Refusal>
     requires { Receivable opened.mode opened.lane.now }
     ensures { done (counted result) text.new ≡ room_over (lane_text (row opened.entry.mode) opened.entry.e opened.entry.lane.now) text.old }
 {
     let row = modes::row_of(opened.mode);
-    let releases = receive(opened.mode, opened.lane);
-    let received = releases.received;
-    let count = releases.count;
-    let statuses = &releases.statuses[..count];
-    let places = &releases.places[..count];
-    let patterns = &releases.patterns[..count];
+    let Releases {
+        received,
+        count,
+        statuses,
+        places,
+        patterns,
+        ..
+    } = receive(opened.mode, opened.lane);
+    let statuses = &statuses[..count];
+    let places = &places[..count];
+    let patterns = &patterns[..count];
     text::write(text, row, opened.e, received, statuses, places, patterns)
 }
 
 // The messages in the commands of a lane of whole multiblocks, over the start of `text`.
+#[inline(never)]
 pub(crate) fn tell(text: &mut [u8], opened: Opened) -> Result<usize, Refusal>
     requires { (has_commands opened.mode ≡ true) × Receivable opened.mode opened.lane.now }
     ensures { done (counted result) text.new ≡ room_over (lane_messages opened.entry.mode opened.entry.e opened.entry.lane.now) text.old }
 {
-    let releases = receive(opened.mode, opened.lane);
-    let received = releases.received;
-    let commands = &releases.commands[..releases.count];
+    let Releases {
+        received,
+        count,
+        commands,
+        ..
+    } = receive(opened.mode, opened.lane);
+    let commands = &commands[..count];
     text::write_messages(text, opened.mode, opened.e, received, commands)
 }

@@ -4,7 +4,9 @@ use mathlib.Core.List.{List, [], ◌∷◌, ◌++◌, append_assoc}
 use Prim.Native.Nat.{ℕ, ◌+◌, ◌-◌, ◌^◌, ◌≤◌, ◌<◌, min}
 use native.Mathlib.Omega.{arith}
 use borrow.Rule.Slice.PartMut.{put_mid, post_of, Post-is}
-use lib.ListN.{length, take, drop, length-append}
+use lib.ListN.{length, set, take, drop, length-append}
+use lib.Seq.{append_snoc}
+use Rattle.std.proofs.lemmas.List.{take-set-le, drop-set, length-set}
 use Rattle.bits.specs.Order.{laid, laid_at}
 use Rattle.bits.proofs.Laid.{fits, laid-start}
 use Rattle.bits.proofs.Writing.{length-laid_at, laid_at-none, laid_at-then}
@@ -22,6 +24,33 @@ wrote-copied new old at end e h r =
     ∙ ap (λ (l : List ℕ). take at old ++ new ++ l) (Post-is at end old within ∙ ap (λ (x : ℕ). drop x old) is)
     ∙ sym (fits new at old (omega arith)) in
     record { place = e; room = r; long = ap length here ∙ length-laid_at new at old (omega arith); holds = λ _. here }
+
+-- what was laid where there is room for it
+pub wrote-fitting : {new old text : List ℕ} {at next : ℕ} → next ≡ min (at + length new) (2 ^ 64 - 1) → next ≤ length old → length old < 2 ^ 64 - 1 → text ≡ laid_at new at old
+    → Wrote new at old next text
+wrote-fitting {new} {old} {text} {at} e h r is =
+    record { place = e; room = r; long = ap length is ∙ length-laid_at new at old (omega arith); holds = λ _. is }
+
+-- an octet stored, and a list laid before it
+pub laid-before : (new : List ℕ) (octet at : ℕ) (old : List ℕ) → at + length new < length old
+    → laid_at new at (set old (at + length new) octet) ≡ laid_at (new ++ (octet ∷ [])) at old
+laid-before new octet at old h =
+    let last = at + length new in
+    let rest = drop (last + 1) old in
+    let both : length (new ++ (octet ∷ [])) ≡ length new + 1 = length-append new (octet ∷ []) in
+    fits new at (set old last octet) (omega (arith, length-set old last octet))
+    ∙ ap₂ (λ (x y : List ℕ). x ++ new ++ y) (take-set-le at old last octet (omega arith)) (drop-set old last octet h)
+    ∙ sym (append_snoc (take at old ++ new) octet rest)
+    ∙ ap (λ (x : List ℕ). x ++ rest) (append_assoc (take at old) new (octet ∷ []))
+    ∙ ap (λ (x : ℕ). take at old ++ (new ++ (octet ∷ [])) ++ drop x old) {x = last + 1} {y = at + length (new ++ (octet ∷ []))} (omega arith)
+    ∙ sym (fits (new ++ (octet ∷ [])) at old (omega arith))
+
+-- one octet alone
+pub laid-alone : (octet at : ℕ) (old : List ℕ) → at < length old → set old at octet ≡ laid_at (octet ∷ []) at old
+laid-alone octet at old h =
+    sym (laid_at-none at (set old at octet) (omega (arith, length-set old at octet)))
+    ∙ ap (λ (x : ℕ). laid_at [] at (set old x octet)) {x = at} {y = at + length {A = ℕ} []} (omega arith)
+    ∙ laid-before [] octet at old (omega arith)
 
 -- nothing
 pub wrote_none : (at : ℕ) (old : List ℕ) → at < 2 ^ 64 → length old < 2 ^ 64 - 1 → Wrote [] at old at old

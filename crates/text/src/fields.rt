@@ -1,7 +1,8 @@
 // Numbers and lines as text: document 01, "Capture and listing". Each is written at a place where there is room for it, and answers the place after
 // it. Where there is no room it is counted all the same, so that the length of a text is what its writer answers over no text at all.
-ghost use Rattle.std.specs.Prelude.{◌≡◌, List, ℕ};
+ghost use Rattle.std.specs.Prelude.{◌≡◌, List, ℕ, ◌-◌, ◌≤◌, length};
 ghost use Rattle.answers.specs.Numbers.{counted};
+ghost use Rattle.bits.specs.Order.{laid_at};
 ghost use Rattle.text.specs.Text.{decimal, sync_name, shape_name, name_of, head_line, release_line};
 ghost use Rattle.text.specs.Writing.{done, room_over};
 ghost use Rattle.text.specs.inner.Wrote.{Wrote, field};
@@ -20,14 +21,62 @@ pub(crate) fn put(text: &mut [u8], at: usize, octets: &[u8]) -> usize
     next
 }
 
+// How many digits a number has: compared, not divided, since over no text this is all that a number costs. As a match it takes a tenth more.
+fn width(n: u32) -> usize
+    ensures { (result ≡ length (decimal n)) × (result ≤ 10) }
+{
+    if n < 10 {
+        return 1;
+    }
+    if n < 100 {
+        return 2;
+    }
+    if n < 1000 {
+        return 3;
+    }
+    if n < 10000 {
+        return 4;
+    }
+    if n < 100000 {
+        return 5;
+    }
+    if n < 1000000 {
+        return 6;
+    }
+    if n < 10000000 {
+        return 7;
+    }
+    if n < 100000000 {
+        return 8;
+    }
+    if n < 1000000000 {
+        return 9;
+    }
+    10
+}
+
+// The digits of a number before the place `end`, the last one first.
+fn write_digits(text: &mut [u8], end: usize, n: u32)
+    requires { (length (decimal n) ≤ end) × (end ≤ length text.old) }
+    ensures { text.new ≡ laid_at (decimal n) (end - length (decimal n)) text.old }
+{
+    let last = end - 1;
+    if n < 10 {
+        text[last] = b'0' + n as u8;
+        return;
+    }
+    text[last] = b'0' + (n % 10) as u8;
+    write_digits(text, last, n / 10);
+}
+
 pub(crate) fn put_decimal(text: &mut [u8], at: usize, n: u32) -> usize
     ensures { Wrote (decimal n) at text.old result text.new }
 {
-    if n < 10 {
-        return put(text, at, &[b'0' + n as u8]);
+    let next = at.saturating_add(width(n));
+    if next <= text.len() {
+        write_digits(text, next, n);
     }
-    let next = put_decimal(text, at, n / 10);
-    put(text, next, &[b'0' + (n % 10) as u8])
+    next
 }
 
 // What the writer puts over the start of `text`. It is measured first, over no text: a text that is too short stays as it was.
@@ -44,12 +93,17 @@ pub(crate) fn put_where_room<F: Fn(&mut [u8]) -> usize>(
     Ok(writer(text))
 }
 
-// A number, and the octet that ends it.
+// A number, and the octet that ends it. One test of the room serves both.
 pub(crate) fn put_field(text: &mut [u8], at: usize, n: u32, end: u8) -> usize
     ensures { Wrote (field n end) at text.old result text.new }
 {
-    let next = put_decimal(text, at, n);
-    put(text, next, &[end])
+    let next = at.saturating_add(width(n) + 1);
+    if next <= text.len() {
+        let last = next - 1;
+        text[last] = end;
+        write_digits(text, last, n);
+    }
+    next
 }
 
 fn letters_of(sync: Sync) -> &'static [u8]

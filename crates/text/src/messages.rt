@@ -35,7 +35,8 @@ fn put_words(text: &mut [u8], at: usize, words: &[u8]) -> usize
     next
 }
 
-// A multiblock, a name, a number and words.
+// A multiblock, a name, a number and words. Taken into its three calls, each of which knows the name's length.
+#[inline(always)]
 fn put_told(text: &mut [u8], at: usize, k: u32, name: &[u8], number: u32, words: &[u8]) -> usize
     ensures { Wrote (told_line k name.now number words.now) at text.old result text.new }
 {

@@ -1,0 +1,4 @@
+use Rattle.text.proofs.fields.+write_digits.Given as goal
+
+abbrev pub decreases-write_digits : goal.decreases-write_digits
+decreases-write_digits l = l.n
